@@ -1,8 +1,7 @@
 -- The message and the capacity decide what is reported of a copy into capacity, and what it then holds.
-use Rattle.cap_spec.proofs.ProofNames.{rules}
 use Rattle.cap_spec.proofs.Lemmas.{words_exact, one_copy, one_first_cap}
-use Rattle.cap_spec.proofs.ProofNames.{Err, List, Result, ap, ap₂, arith, length, sym, take_all, ℕ, ◌*◌}
-use Rattle.cap_spec.proofs.ProofNames.{◌∙◌, ◌≡◌, ◌≤◌, plain_text, plain_words}
+use Rattle.cap_spec.proofs.ProofNames.{rules, List, Result, ap, arith, length, sym, take_all, ℕ, ◌*◌, ◌∙◌, ◌≡◌, ◌≤◌}
+use Rattle.cap_spec.proofs.ProofNames.{plain_words}
 use Rattle.cap_canon.specs.CopyBuffers.{ReportsBuffer, has_capability, too_small, written}
 use Rattle.cap_canon.specs.CanonNames.{CanonFault, first_words}
 use Rattle.cap_canon.specs.declared.fault.BufferFault.{BufferFault}
@@ -15,23 +14,16 @@ use Rattle.cap_spec.specs.declared.CanonFault.TheVariants as canon
 pub one_buffer : (m : List (List ℕ)) (old : List ℕ) (a b : Result ℕ BufferFault) (xs ys : List ℕ) → ReportsBuffer m old a xs → ReportsBuffer m old b ys
     → (a ≡ b) × (xs ≡ ys)
 one_buffer m old a b xs ys (has_capability s w f e g) (has_capability t x h i j) =
-    let same = one_first_cap m s w t x f h in
-    (e ∙ (ap₂ (λ (p q : ℕ). Err (HasCapability p q)) same.0 same.1 ∙ sym i), g ∙ sym j)
+    search (rules, one_first_cap m s w t x f h)
 one_buffer m old a b xs ys (has_capability s w f e g) (too_small us h l i j) = absurd (cap_no_copy m s w us f h)
 one_buffer m old a b xs ys (has_capability s w f e g) (written us h l i j) = absurd (cap_no_copy m s w us f h)
 one_buffer m old a b xs ys (too_small ws h l i j) (has_capability s w f e g) = absurd (cap_no_copy m s w ws f h)
 one_buffer m old a b xs ys (written ws h l i j) (has_capability s w f e g) = absurd (cap_no_copy m s w ws f h)
-one_buffer m old a b xs ys (too_small ws h l e g) (too_small us k n i j) =
-    let same = one_copy m ws us h k in
-    (e ∙ (ap (λ (z : List ℕ). Err (BufferTooSmall (length (plain_text z)))) same ∙ sym i), g ∙ sym j)
+one_buffer m old a b xs ys (too_small ws h l e g) (too_small us k n i j) = search (rules, one_copy m ws us h k)
 one_buffer m old a b xs ys (written ws h l e g) (written us k n i j) =
-    let same = one_copy m ws us h k in search (rules, plain_text)
-one_buffer m old a b xs ys (too_small ws h l e g) (written us k n i j) =
-    let long = ap (λ (z : List ℕ). length (plain_text z)) (one_copy m ws us h k) in
-    absurd (omega (arith, l, n, long))
-one_buffer m old a b xs ys (written ws h l e g) (too_small us k n i j) =
-    let long = ap (λ (z : List ℕ). length (plain_text z)) (one_copy m ws us h k) in
-    absurd (omega (arith, l, n, long))
+    let same = one_copy m ws us h k in search rules
+one_buffer m old a b xs ys (too_small ws h l e g) (written us k n i j) = search (rules, one_copy m ws us h k)
+one_buffer m old a b xs ys (written ws h l e g) (too_small us k n i j) = search (rules, one_copy m ws us h k)
 
 -- the words that were written are the first this many
 pub counted : (count : ℕ) (bytes words : List ℕ) → 8 * count ≤ length bytes → first_words count bytes ≡ words → first_words (length words) bytes ≡ words

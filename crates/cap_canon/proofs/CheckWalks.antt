@@ -1,6 +1,6 @@
 -- A message that is compared with its copy, one object more.
 use Rattle.cap_spec.proofs.Canonical.TreeMeasures.{Fits}
-use Rattle.cap_spec.proofs.ProofNames.{List, [], length, ℕ, ◌++◌, ◌+◌, ◌∷◌, ◌≤◌, trim, Denotes, segment_of, Tree}
+use Rattle.cap_spec.proofs.ProofNames.{List, [], length, ℕ, ◌++◌, ◌+◌, ◌∷◌, ◌≤◌, trim, Denotes, segment_of, Tree, rules}
 use Rattle.cap_canon.specs.CanonNames.{IsChecked, Due, IsPointed, OwnAt, below, own_size}
 use Rattle.cap_canon.proofs.LaidSteps.{object_laid}
 use Rattle.cap_canon.proofs.Walks.{root_fits, root_inside}
@@ -14,6 +14,4 @@ check_first m t c d h = let k = layout_laid (segment_of m 0) (trim t) (root_fits
 pub check_on : (m : List (List ℕ)) (whole u : Tree) (slot end : ℕ) (due : List Due) → Fits u → end + own_size u ≤ length (segment_of m 0)
     → IsPointed (segment_of m 0) end slot u
     → OwnAt (segment_of m 0) end u → IsChecked m whole end (record { slot = slot; tree = u } ∷ due) → IsChecked m whole (end + own_size u) (below end u ++ due)
-check_on m whole u slot end due f le p own k =
-    let step = object_laid (segment_of m 0) end slot u due f in
-    record { inside = le; laid = (λ l. k.laid.0 (step.1 (p, own, l)), λ s. (step.0 (k.laid.1 s)).2) }
+check_on m whole u slot end due f le p own k = search (rules, object_laid (segment_of m 0) end slot u due f)

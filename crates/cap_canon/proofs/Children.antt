@@ -2,10 +2,9 @@
 use Rattle.cap_spec.specs.Denoting.{places}
 use Rattle.cap_spec.specs.Tree.{none}
 use Rattle.cap_spec.proofs.Lemmas.{children_needed_le, each_charged, length-places}
-use Rattle.cap_spec.proofs.ProofNames.{Bool, List, Some, ap, arith, false, if◌then◌else◌, max, refl, subst, suc, sym}
-use Rattle.cap_spec.proofs.ProofNames.{true, zero, ℕ, ◌+◌, ◌-◌, ◌<◌, ◌==◌, ◌∙◌, ◌≡◌, ◌≤◌, ◌⊎◌, eqb_tells, same_Some}
-use Rattle.cap_spec.proofs.ProofNames.{children_needed, is_null, DenoteEach, Denotes, Tree, Trees, more, tree_at}
-use Rattle.cap_spec.proofs.ProofNames.{tree_count, rules}
+use Rattle.cap_spec.proofs.ProofNames.{Bool, List, Some, arith, false, if◌then◌else◌, max, suc, true, zero, ℕ, ◌+◌, ◌-◌}
+use Rattle.cap_spec.proofs.ProofNames.{◌<◌, ◌==◌, ◌∙◌, ◌≡◌, ◌≤◌, ◌⊎◌, eqb_tells, same_Some, children_needed, is_null}
+use Rattle.cap_spec.proofs.ProofNames.{DenoteEach, Denotes, Tree, Trees, more, tree_at, tree_count, rules}
 use Rattle.cap_spec.proofs.Trees.OneTree.{cons_parts}
 use Rattle.cap_canon.proofs.Needed.{later_needed, later_zero}
 
@@ -31,8 +30,7 @@ child_at m t b zero none c d i h lt = absurd (omega (arith, lt))
 child_at m t b (suc n) none c d i h lt = absurd (cc h.0)
 child_at m t b n (more x xs) c d zero h lt =
     let r = row_parts m t b n x xs c d h in
-    let e : b ≡ b + 0 = omega arith in
-    (x, r.c1, r.d1, refl, subst (λ w. Denotes m t w x r.c1 r.d1) e r.first)
+    let e : b ≡ b + 0 = omega arith in search rules
 child_at m t b n (more x xs) c d (suc i) h lt =
     let r = row_parts m t b n x xs c d h in search (rules, child_at m t (b + 1) r.others xs r.c2 r.d2 i r.rest (omega (arith, lt, r.many)))
 
@@ -50,9 +48,8 @@ first_child : (n : ℕ) (b : Bool) → b ≡ false → (((n == 0) ≡ true) × (
 first_child n b e h = search rules
 
 pub child_past : (ts : Trees) (i : ℕ) (u : Tree) → tree_at ts i ≡ Some u → is_null u ≡ false → suc i ≤ children_needed ts
-child_past none i u e f = absurd (cc e)
-child_past (more t ts) zero u e f = first_child (children_needed ts) (is_null t) (ap is_null (same_Some t u e) ∙ f) (eqb_tells (children_needed ts) 0)
-child_past (more t ts) (suc i) u e f = search (rules, later_needed, children_needed, is_null, eqb_tells, child_past ts i u e f)
+child_past (more t ts) (suc i) u e f = search (rules, later_needed, eqb_tells, child_past ts i u e f)
+child_past ts i u e f = search (rules, first_child, same_Some, eqb_tells)
 
 -- and a null that is last of those needed isn't
 first_null : (n : ℕ) (b : Bool) → b ≡ true → (((n == 0) ≡ true) × (n ≡ 0)) ⊎ (((n == 0) ≡ false) × (n ≡ 0 → ⊥))
@@ -64,20 +61,18 @@ one_child : (b : Bool) → (if b then 0 else 1) ≤ 1
 one_child h = search rules
 
 pub child_not : (ts : Trees) (i : ℕ) (u : Tree) → tree_at ts i ≡ Some u → is_null u ≡ true → children_needed ts ≤ suc i → children_needed ts ≤ i
-child_not none i u e f h = absurd (cc e)
-child_not (more t ts) zero u e f h = first_null (children_needed ts) (is_null t) (ap is_null (same_Some t u e) ∙ f) (eqb_tells (children_needed ts) 0) h
-child_not (more t ts) (suc i) u e f h = search (rules, later_zero, children_needed, is_null, one_child, eqb_tells, child_not ts i u e f)
+child_not (more t ts) (suc i) u e f h = search (rules, later_zero, one_child, eqb_tells, child_not ts i u e f)
+child_not ts i u e f h = search (rules, first_null, same_Some, eqb_tells)
 
 -- the child looked at is needed, so that nothing below it is cut
 pub child_here : (m : List (List ℕ)) (t b n left least : ℕ) (z : Bool) (ts : Trees) (c d : ℕ) → least < left → left ≤ n → DenoteEach m (places t b n) ts c d
     → ((u : Tree) (c' d' : ℕ) → Denotes m t (b + (left - 1)) u c' d' → z ≡ is_null u) → z ≡ false → children_needed ts ≤ left
     → left ≡ max least (children_needed ts)
 child_here m t b n left least z ts c d lt le h is other most =
-    let k = child_at m t b n ts c d (left - 1) h (omega (arith, lt, le)) in search (rules, children_needed, child_past)
+    let k = child_at m t b n ts c d (left - 1) h (omega (arith, lt, le)) in search (rules, child_past)
 
 -- and one that is null isn't
 pub child_below : (m : List (List ℕ)) (t b n left least : ℕ) (z : Bool) (ts : Trees) (c d : ℕ) → least < left → left ≤ n → DenoteEach m (places t b n) ts c d
     → ((u : Tree) (c' d' : ℕ) → Denotes m t (b + (left - 1)) u c' d' → z ≡ is_null u) → z ≡ true → children_needed ts ≤ left → children_needed ts ≤ left - 1
 child_below m t b n left least z ts c d lt le h is null_z most =
-    let k = child_at m t b n ts c d (left - 1) h (omega (arith, lt, le)) in
-    child_not ts (left - 1) k.0 k.3 (sym (is k.0 k.1 k.2 k.4) ∙ null_z) (omega (arith, lt, most))
+    let k = child_at m t b n ts c d (left - 1) h (omega (arith, lt, le)) in search (rules, child_not)

@@ -1,10 +1,9 @@
 -- The one canonical copy of an accepted message.
-use Rattle.cap_spec.proofs.ProofNames.{common_steps}
 use Rattle.cap_spec.proofs.Lemmas.{layout_charged, first_cap, one_tree}
 use Rattle.cap_spec.proofs.Paths.PathCounts.{caps_counted}
-use Rattle.cap_spec.proofs.ProofNames.{Err, List, None, Result, arith, eqb-true, false, length, refl, subst, sym}
-use Rattle.cap_spec.proofs.ProofNames.{true, ℕ, ◌+◌, ◌<◌, ◌==◌, ◌^◌, ◌∙◌, ◌≡◌, ◌≢◌, ◌≤◌, false≢true, layout, trim}
-use Rattle.cap_spec.proofs.ProofNames.{HasCopy, IsCanonical, Denotes, Leads, to_cap, IsOneOf, IsFirstCap, Reaches}
+use Rattle.cap_spec.proofs.ProofNames.{common_steps, Err, List, None, Result, arith, eqb-true, false, length, refl}
+use Rattle.cap_spec.proofs.ProofNames.{subst, sym, true, ℕ, ◌+◌, ◌<◌, ◌==◌, ◌^◌, ◌∙◌, ◌≡◌, ◌≢◌, ◌≤◌, false≢true, layout}
+use Rattle.cap_spec.proofs.ProofNames.{trim, HasCopy, IsCanonical, Denotes, Leads, to_cap, IsOneOf, IsFirstCap, Reaches}
 use Rattle.cap_spec.proofs.ProofNames.{Tree, cap_count, has_cap, rules}
 use Rattle.cap_vet.specs.Reports.{IsFirstCapOf, IsReport}
 use Rattle.cap_canon.specs.CanonNames.{CanonFault, Step, Report, HasTree}

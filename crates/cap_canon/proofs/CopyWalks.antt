@@ -1,7 +1,6 @@
 -- A copy after one object more.
-use Rattle.cap_spec.proofs.ProofNames.{rules}
-use Rattle.cap_spec.proofs.ProofNames.{List, [], arith, inl, length, length-append, length-set, set}
-use Rattle.cap_spec.proofs.ProofNames.{ℕ, ◌++◌, ◌+◌, ◌-◌, ◌<◌, ◌∷◌, ◌≡◌, get_or_from_slice_get, pointer_to, Tree}
+use Rattle.cap_spec.proofs.ProofNames.{rules, List, [], arith, inl, length, length-append, length-set, set, ℕ, ◌++◌}
+use Rattle.cap_spec.proofs.ProofNames.{◌+◌, ◌-◌, ◌<◌, ◌∷◌, ◌≡◌, get_or_from_slice_get, pointer_to, Tree}
 use Rattle.cap_canon.specs.Filling.{Agrees, OwnAppended}
 use Rattle.cap_canon.specs.Laying.{Due, IsPointed, OwnAt, below, own_size}
 use Rattle.cap_canon.proofs.Agreeing.{agrees_append, agrees_set}
@@ -13,7 +12,7 @@ pub agrees_more : (old new whole : List ℕ) (end slot value : ℕ) (u : Tree) (
     → IsPointed whole end slot u → OwnAt whole end u → OwnAppended (set old slot value) new u → Agrees old whole (record { slot = slot; tree = u } ∷ due)
     → Agrees new whole (below end u ++ due)
 agrees_more old new whole end slot value u due many lt v p own app a =
-    search (rules, length-set, pointer_to, get_or_from_slice_get, agrees_set, agrees_append, due_right, due_left)
+    search (rules, length-set, get_or_from_slice_get, agrees_set, agrees_append, due_right, due_left)
 
 pub length_more : (old new : List ℕ) (end slot value : ℕ) (u : Tree) → length old ≡ end → OwnAppended (set old slot value) new u → length new ≡ end + own_size u
 length_more old new end slot value u many app = search (rules, length-set, length-append)

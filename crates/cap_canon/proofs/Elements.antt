@@ -2,10 +2,9 @@
 use Rattle.cap_spec.specs.Denoting.{places}
 use Rattle.cap_spec.specs.Tree.{none}
 use Rattle.cap_spec.proofs.Lemmas.{tree_count-take_le, tree_count-trim_all}
-use Rattle.cap_spec.proofs.ProofNames.{List, arith, max, refl, subst, suc, take, take-take, zero, ℕ, ◌*◌}
-use Rattle.cap_spec.proofs.ProofNames.{◌+◌, ◌-◌, ◌<◌, ◌∙◌, ◌≡◌, ◌≤◌, children_needed, children_of, cut_elements}
-use Rattle.cap_spec.proofs.ProofNames.{data_needed, data_of, take_trees, trim_all, trim_elements, AreElements}
-use Rattle.cap_spec.proofs.ProofNames.{DenoteEach, words_from, Trees, more, struct, tree_count, rules}
+use Rattle.cap_spec.proofs.ProofNames.{List, arith, max, refl, suc, take, take-take, ℕ, ◌*◌, ◌+◌, ◌-◌, ◌<◌, ◌≡◌, ◌≤◌}
+use Rattle.cap_spec.proofs.ProofNames.{children_needed, children_of, cut_elements, data_of, take_trees, trim_all}
+use Rattle.cap_spec.proofs.ProofNames.{trim_elements, AreElements, DenoteEach, words_from, Trees, more, struct, rules}
 use Rattle.cap_canon.specs.CanonNames.{AreElementsLeft, AreLeft, most_data}
 use Rattle.cap_canon.proofs.Children.{row_count, row_needed, row_parts}
 use Rattle.cap_canon.proofs.Needed.{most_on}
@@ -29,19 +28,17 @@ element_parts m t b ds ps n ws ts es c d h = search rules
 
 -- the data words that no element can do without, as they are
 pub most_data_of : (m : List (List ℕ)) (t b ds ps n : ℕ) (es : Trees) (c d : ℕ) → AreElements m t b ds ps n es c d → most_data m t b ds ps n ≡ data_of es
-most_data_of m t b ds ps n none c d h = rw h.0 refl
 most_data_of m t b ds ps n (more (struct ws ts) es) c d h =
     let k = element_parts m t b ds ps n ws ts es c d h in
-    search (rules, data_needed, most_data_of m t (b + ds + ps) ds ps k.others es k.c2 k.d2 k.rest)
-most_data_of m t b ds ps n (more _ es) c d h = absurd h
+    search (rules, most_data_of m t (b + ds + ps) ds ps k.others es k.c2 k.d2 k.rest)
+most_data_of m t b ds ps n es c d h = search rules
 
 -- no element needs more children than it has
 pub children_within : (m : List (List ℕ)) (t b ds ps n : ℕ) (es : Trees) (c d : ℕ) → AreElements m t b ds ps n es c d → children_of es ≤ ps
-children_within m t b ds ps n none c d h = omega arith
 children_within m t b ds ps n (more (struct ws ts) es) c d h =
     let k = element_parts m t b ds ps n ws ts es c d h in
     omega (arith, row_needed m t (b + ds) ps ts k.c1 k.d1 k.children, children_within m t (b + ds + ps) ds ps k.others es k.c2 k.d2 k.rest)
-children_within m t b ds ps n (more _ es) c d h = absurd h
+children_within m t b ds ps n es c d h = search rules
 
 -- a turn of the loop over elements, at the one after the first i
 pub record ChildrenSeen (m : List (List ℕ)) (s start at ds ps count i most : ℕ) : Type 0 where
@@ -75,15 +72,7 @@ buffered m s start at ds ps count i most es c d lt k h = go r.0 r.1 r.2 r.3 r.4
     go : (fs : Trees) (c' d' : ℕ) → AreElements m s at ds ps (count - i) fs c' d' → max most (children_of fs) ≡ children_of es
         → Buffered m s start at ds ps count i most es
     go none c' d' f e = absurd (omega (arith, lt, f.0))
-    go (more (struct ws ts) fs) c' d' f e = record {
-      words = ws;
-      children = ts;
-      later = fs;
-      charge = c';
-      depth = d';
-      parts = element_parts m s at ds ps (count - i) ws ts fs c' d' f;
-      same = e;
-    }
+    go (more (struct ws ts) fs) c' d' f e = search (rules, element_parts)
     go (more _ fs) c' d' f e = absurd f
 
 pub children_seen : (m : List (List ℕ)) (s start at ds ps count i most now : ℕ) → i < count
@@ -101,15 +90,7 @@ children_seen m s start at ds ps count i most now lt is within k = record {
         let a = buffered m s start at ds ps count i most es c d lt k h in
         let p = a.parts in
         let e : at + ds + ps ≡ at + (ds + ps) = omega arith in
-        let n : p.others ≡ count - (i + 1) = omega (arith, p.many, lt) in
-        let f : now ≡ max most (children_needed a.children) = is a.children p.c1 p.d1 p.children in (
-          a.later,
-          p.c2,
-          p.d2,
-          subst (λ x. AreElements m s x ds ps (count - (i + 1)) a.later p.c2 p.d2) e
-              (subst (λ x. AreElements m s (at + ds + ps) ds ps x a.later p.c2 p.d2) n p.rest),
-          most_on now (children_needed a.children) most (children_of a.later) f ∙ a.same,
-        )
+        let n : p.others ≡ count - (i + 1) = omega (arith, p.many, lt) in search (rules, most_on)
 
 -- all have their size already
 pub enough_children : (m : List (List ℕ)) (s start at ds ps count i most : ℕ) (es : Trees) (c d : ℕ) → most ≡ ps → ChildrenSeen m s start at ds ps count i most
@@ -125,9 +106,8 @@ row_left m t b n deep (more x xs) c d h le =
 
 -- and the first of them
 pub left_take : (m : List (List ℕ)) (deep s w n : ℕ) (us : Trees) → AreLeft m deep s w us → AreLeft m deep s w (take_trees n us)
-left_take m deep s w zero us h = tt
-left_take m deep s w (suc n) none h = tt
 left_take m deep s w (suc n) (more u us) h = (h.0, left_take m deep s (w + 1) n us h.1)
+left_take m deep s w n us h = search rules
 
 -- the front of words that are in a range
 pub words_left : (m : List (List ℕ)) (t b ds d : ℕ) (ws : List ℕ) → ws ≡ words_from m t b ds → d ≤ ds → take d ws ≡ words_from m t b d
@@ -136,9 +116,8 @@ words_left m t b ds d ws e le = search (rules, take-take)
 -- the elements of a list, cut to these sizes
 pub elements_left : (m : List (List ℕ)) (t b ds ps n d p deep : ℕ) (es : Trees) (c d' : ℕ) → d ≤ ds → p ≤ ps → AreElements m t b ds ps n es c d' → d' ≤ deep
     → AreElementsLeft m deep t b ds ps d p (cut_elements d p (trim_elements es))
-elements_left m t b ds ps n d p deep none c d' dle ple h le = tt
 elements_left m t b ds ps n d p deep (more (struct ws ts) es) c d' dle ple h le =
     let k = element_parts m t b ds ps n ws ts es c d' h in
     let rest = elements_left m t (b + ds + ps) ds ps k.others d p deep es k.c2 k.d2 dle ple k.rest (omega (arith, k.depth, le)) in
-    search (rules, tree_count, trim_all, tree_count-trim_all, row_count, words_left, tree_count-take_le, left_take, row_left)
-elements_left m t b ds ps n d p deep (more _ es) c d' dle ple h le = absurd h
+    search (rules, tree_count-trim_all, row_count, words_left, tree_count-take_le, left_take, row_left)
+elements_left m t b ds ps n d p deep es c d' dle ple h le = search rules

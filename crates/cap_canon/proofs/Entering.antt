@@ -31,36 +31,31 @@ structs_run_of x count end = record {
 pub row_owed : (m : List (List ℕ)) (deeper depth n t b a p : ℕ) (us : Trees) → deeper + n ≤ depth → tree_count us ≡ p → AreLeft m deeper t b us
     → AreOwed m depth n (row_places t b a p) (slots a us)
 row_owed m deeper depth n t b a zero none le e h = tt
-row_owed m deeper depth n t b a zero (more u us) le e h = absurd (omega (arith, e))
-row_owed m deeper depth n t b a (suc p) none le e h = absurd (omega (arith, e))
 row_owed m deeper depth n t b a (suc p) (more u us) le e h =
     search (rules, row_owed m deeper depth n t (b + 1) (a + 1) p us le (omega (arith, e)) h.1)
+row_owed m deeper depth n t b a p us le e h = search rules
 
 -- words that are owed, one after the other
 owed_join : (m : List (List ℕ)) (depth n : ℕ) (ps qs : List PointerPlace) (xs ys : List Due) → AreOwed m depth n ps xs → AreOwed m depth n qs ys
     → AreOwed m depth n (ps ++ qs) (xs ++ ys)
-owed_join m depth n [] qs [] ys h k = k
-owed_join m depth n [] qs (x ∷ xs) ys h k = absurd h
-owed_join m depth n (p ∷ ps) qs [] ys h k = absurd h
 owed_join m depth n (p ∷ ps) qs (x ∷ xs) ys h k = (h.0, h.1, owed_join m depth n ps qs xs ys h.2 k)
+owed_join m depth n ps qs xs ys h k = search rules
 
 -- the words of further elements
 further_owed : (m : List (List ℕ)) (deeper depth n t x b a skip ds ps d p : ℕ) (es : Trees) → deeper + n ≤ depth → x + skip ≡ b + ds → p + skip ≡ ps + ds
     → AreElementsLeft m deeper t b ds ps d p es
     → AreOwed m depth n (further_places t x a skip d p (tree_count es)) (element_slots d p a es)
-further_owed m deeper depth n t x b a skip ds ps d p none le e f h = tt
 further_owed m deeper depth n t x b a skip ds ps d p (more (struct ws us) es) le e f h =
-    search (rules, row_owed, owed_join, tree_count, further_owed m deeper depth n t (x + skip + p) (b + ds + ps) (a + d + p) skip ds ps d p es le (omega (arith, e, f)) f h.3)
-further_owed m deeper depth n t x b a skip ds ps d p (more _ es) le e f h = absurd h
+    search (rules, row_owed, owed_join, further_owed m deeper depth n t (x + skip + p) (b + ds + ps) (a + d + p) skip ds ps d p es le (omega (arith, e, f)) f h.3)
+further_owed m deeper depth n t x b a skip ds ps d p es le e f h = search rules
 
 -- and of the first and the others
 elements_owed : (m : List (List ℕ)) (deeper depth n t b a skip ds ps d p others : ℕ) (es : Trees) → deeper + n ≤ depth → p + skip ≡ ps + ds
     → tree_count es ≡ suc others → AreElementsLeft m deeper t b ds ps d p es
     → AreOwed m depth n (row_places t (b + ds) (a + d) p ++ further_places t (b + ds + p) (a + d + p) skip d p others) (element_slots d p a es)
-elements_owed m deeper depth n t b a skip ds ps d p others none le f e h = absurd (omega (arith, e))
 elements_owed m deeper depth n t b a skip ds ps d p others (more (struct ws us) es) le f e h =
     let many : tree_count es ≡ others = omega (arith, e) in search (rules, owed_join, row_owed, further_owed)
-elements_owed m deeper depth n t b a skip ds ps d p others (more _ es) le f e h = absurd h
+elements_owed m deeper depth n t b a skip ds ps d p others es le f e h = search rules
 
 -- elements that aren't there, or have no pointers
 none_owed : (m : List (List ℕ)) (deeper depth n t b a ds ps d p : ℕ) (es : Trees) → (tree_count es ≡ 0) ⊎ (p ≡ 0) → AreElementsLeft m deeper t b ds ps d p es
@@ -112,11 +107,10 @@ slots_before a end (more t ts) le = (omega (arith, le), slots_before (a + 1) end
 
 elements_before : (m : List (List ℕ)) (deeper t b a ds ps d p end : ℕ) (es : Trees) → AreElementsLeft m deeper t b ds ps d p es
     → a + tree_count es * (d + p) ≤ end → AreBefore end (element_slots d p a es)
-elements_before m deeper t b a ds ps d p end none h le = tt
 elements_before m deeper t b a ds ps d p end (more (struct ws us) es) h le =
     before_join end (slots (a + d) us) (element_slots d p (a + d + p) es) (slots_before (a + d) end us (omega (arith, le, h.1)))
     (elements_before m deeper t (b + ds + ps) (a + d + p) ds ps d p end es h.3 (omega (arith, le)))
-elements_before m deeper t b a ds ps d p end (more _ es) h le = absurd h
+elements_before m deeper t b a ds ps d p end es h le = search rules
 
 pub below_before : (m : List (List ℕ)) (d s w end : ℕ) (u : Tree) (o : Object) → IsObject m d s w u o → AreBefore (end + own_size u) (below end u)
 below_before m d s w end u h k = search (rules, slots_before, elements_before)
@@ -152,10 +146,9 @@ slots_count a (more t ts) = ap suc (slots_count (a + 1) ts)
 
 elements_count : (m : List (List ℕ)) (deeper t b a ds ps d p : ℕ) (es : Trees) → AreElementsLeft m deeper t b ds ps d p es
     → length (element_slots d p a es) ≤ tree_count es * (d + p)
-elements_count m deeper t b a ds ps d p none h = omega arith
 elements_count m deeper t b a ds ps d p (more (struct ws us) es) h =
     search (rules, length-append, slots_count, elements_count m deeper t (b + ds + ps) (a + d + p) ds ps d p es h.3)
-elements_count m deeper t b a ds ps d p (more _ es) h = absurd h
+elements_count m deeper t b a ds ps d p es h = search rules
 
 below_count : (m : List (List ℕ)) (d s w end : ℕ) (u : Tree) (o : Object) → IsObject m d s w u o → length (below end u) ≤ own_size u
 below_count m d s w end u h k = search (rules, slots_count, elements_count)

@@ -9,8 +9,7 @@ use Rattle.cap_spec.proofs.ProofNames.{slice_get_within, struct_word, values_of,
 use Rattle.cap_spec.proofs.ProofNames.{scalar_words, Tree, Trees, more, struct, structs, tree_count, rules}
 use Rattle.cap_canon.specs.Filling.{Fills, IsDue, OwnAppended, elements_from, part_words, parts_words}
 use Rattle.cap_canon.specs.Laying.{DataAt, Due, element_slots, own_size, slots}
-use Rattle.cap_canon.specs.Objects.{AreElementsLeft, IsPointersObject, IsScalarsObject, IsStructObject}
-use Rattle.cap_canon.specs.Objects.{IsStructsObject}
+use Rattle.cap_canon.specs.Objects.{AreElementsLeft, IsPointersObject, IsScalarsObject, IsStructObject, IsStructsObject}
 use Rattle.cap_canon.specs.declared.objects.Part.{Part}
 use Rattle.cap_canon.proofs.Ranges.{length-elements_from}
 
@@ -46,7 +45,6 @@ fills_slots whole b ts xs e k lt = inl (slot_due b k ts (omega (arith, lt, e)))
 elements_fill : (m : List (List ℕ)) (whole : List ℕ) (deep t b c ds ps d p : ℕ) (es : Trees) → d ≤ ds → p ≤ ps
     → b + tree_count es * (ds + ps) ≤ length (segment_of m t)
     → AreElementsLeft m deep t b ds ps d p es → DataAt whole c d p es → Fills whole c (element_slots d p c es) (elements_from m t b ds ps d p (tree_count es))
-elements_fill m whole deep t b c ds ps d p none hd hp h a at k lt = absurd (omega (arith, lt))
 elements_fill m whole deep t b c ds ps d p (more (struct ws us) es) hd hp h a at k lt =
     let e : suc (tree_count es) * (ds + ps) ≡ ds + ps + tree_count es * (ds + ps) = omega arith in
     let x : length (words_from m t b d) ≡ d = range_length m t b d (omega (arith, hd, h, e)) in
@@ -59,7 +57,7 @@ elements_fill m whole deep t b c ds ps d p (more (struct ws us) es) hd hp h a at
     (omega (arith, x, y, l))
     (fills_join whole c (c + d) (words_from m t b d) (words_from m t (b + ds) p) [] (slots (c + d) us) (omega (arith, x)) own row)
     (elements_fill m whole deep t (b + ds + ps) (c + d + p) ds ps d p es hd hp (omega (arith, h, e)) a.3 at.1) k lt
-elements_fill m whole deep t b c ds ps d p (more _ es) hd hp h a at k lt = absurd a
+elements_fill m whole deep t b c ds ps d p es hd hp h a at k lt = search rules
 
 -- what is left of a struct
 pub struct_appended : (m : List (List ℕ)) (deep s w : ℕ) (u : Tree) (x : Part) (old new : List ℕ) → IsStructObject m deep s w u x
@@ -125,9 +123,6 @@ structs_appended m deep s w u n x old new h e = subst (λ (v : Tree). OwnAppende
     size : tree_count h.elements * (x.data_left + x.pointers_left) ≡ n * (x.data_left + x.pointers_left)
     size = ap (λ k. k * (x.data_left + x.pointers_left)) h.many
 
-    l : length (parts_words m x n) ≡ n * (x.data_left + x.pointers_left)
-    l = length-elements_from m x.segment x.start x.data_words x.pointers x.data_left x.pointers_left n h.fewer.0 h.fewer.1 inside
-
     tag : struct_word (tree_count h.elements) x.data_left x.pointers_left ≡ struct_word n x.data_left x.pointers_left
     tag = ap (λ k. struct_word k x.data_left x.pointers_left) h.many
 
@@ -135,7 +130,7 @@ structs_appended m deep s w u n x old new h e = subst (λ (v : Tree). OwnAppende
     own = record {
       words = struct_word n x.data_left x.pointers_left ∷ parts_words m x n;
       appended = e ∙ append_assoc old word (parts_words m x n);
-      many = omega (arith, l, size);
+      many = omega (arith, length-elements_from, size);
       fill = λ whole at.
           let last = slice_get_within whole (length old) (struct_word (tree_count h.elements) x.data_left x.pointers_left) at.0 in
           let due = element_slots x.data_left x.pointers_left (length old + 1) h.elements in

@@ -1,30 +1,22 @@
 -- Words written as bytes over bytes that are there already.
 use Rattle.std.proofs.Math.Seq.{take-set-lt}
 use Rattle.cap_spec.proofs.Bytes.Plain.{length_plain, plain_back, words_exact}
-use Rattle.cap_spec.proofs.ProofNames.{List, [], ap, append_assoc, ap₂, arith, drop, drop-drop, length}
-use Rattle.cap_spec.proofs.ProofNames.{length-append, length-take-le, refl, set, suc, sym, take, take-append-drop}
-use Rattle.cap_spec.proofs.ProofNames.{take_all, zero, ℕ, ◌*◌, ◌++◌, ◌+◌, ◌<◌, ◌∙◌, ◌∷◌, ◌≡◌, ◌≤◌, take-set_at}
-use Rattle.cap_spec.proofs.ProofNames.{take-append-le, AllByRecursion, put_mid, plain_text, plain_words, word_bytes}
-use Rattle.cap_spec.proofs.ProofNames.{IsWord, rules}
+use Rattle.cap_spec.proofs.ProofNames.{List, [], ap, append_assoc, ap₂, arith, drop, drop-drop, length, length-append}
+use Rattle.cap_spec.proofs.ProofNames.{length-take-le, refl, set, suc, sym, take, take-append-drop, take_all, zero, ℕ}
+use Rattle.cap_spec.proofs.ProofNames.{◌*◌, ◌++◌, ◌+◌, ◌<◌, ◌∙◌, ◌∷◌, ◌≡◌, ◌≤◌, take-set_at, take-append-le}
+use Rattle.cap_spec.proofs.ProofNames.{AllByRecursion, put_mid, plain_text, plain_words, word_bytes, IsWord, rules}
 use Rattle.cap_words.proofs.Filling.{plain_join}
 use Rattle.cap_canon.specs.FirstWords.{first_words}
 
 -- the bytes of a word in place of those of word p
 words_set : (p : ℕ) (bytes : List ℕ) (w : ℕ) → IsWord w → 8 * p + 8 ≤ length bytes
     → plain_words (take (8 * p) bytes ++ (word_bytes w ++ drop (8 * p + 8) bytes)) ≡ set (plain_words bytes) p w
-words_set p [] w is h = absurd (omega (arith, h))
-words_set p (a ∷ []) w is h = absurd (omega (arith, h))
-words_set p (a ∷ b ∷ []) w is h = absurd (omega (arith, h))
-words_set p (a ∷ b ∷ c ∷ []) w is h = absurd (omega (arith, h))
-words_set p (a ∷ b ∷ c ∷ d ∷ []) w is h = absurd (omega (arith, h))
-words_set p (a ∷ b ∷ c ∷ d ∷ e ∷ []) w is h = absurd (omega (arith, h))
-words_set p (a ∷ b ∷ c ∷ d ∷ e ∷ f ∷ []) w is h = absurd (omega (arith, h))
-words_set p (a ∷ b ∷ c ∷ d ∷ e ∷ f ∷ g ∷ []) w is h = absurd (omega (arith, h))
 words_set zero (a ∷ b ∷ c ∷ d ∷ e ∷ f ∷ g ∷ x ∷ rest) w is h = plain_back (w ∷ []) rest (is, tt)
 words_set (suc p) (a ∷ b ∷ c ∷ d ∷ e ∷ f ∷ g ∷ x ∷ rest) w is h =
     let bytes = a ∷ b ∷ c ∷ d ∷ e ∷ f ∷ g ∷ x ∷ rest in
     let front : 8 * suc p ≡ suc (suc (suc (suc (suc (suc (suc (suc (8 * p)))))))) = omega arith in
-    search (rules, plain_words, word_bytes, words_set p rest w is (omega (arith, h)))
+    search (rules, words_set p rest w is (omega (arith, h)))
+words_set p rest w is h = search rules
 
 -- the same by what a part of bytes was overwritten with
 pub words_put : (p k : ℕ) (bytes given : List ℕ) (w : ℕ) → IsWord w → k ≡ 8 → 8 * p + 8 ≤ length bytes → given ≡ word_bytes w
@@ -47,7 +39,7 @@ first_taken n bytes h =
     let many : length (plain_words front) ≡ n = omega (arith, words_exact front, long) in
     let split : plain_words bytes ≡ plain_words front ++ plain_words (drop (8 * n) bytes) =
     ap plain_words (sym (take-append-drop (8 * n) bytes)) ∙ plain_join front (drop (8 * n) bytes) (omega (arith, long)) in
-    search (rules, take-append-le, plain_words, take_all)
+    search (rules, take-append-le, take_all)
 
 -- words in a row were written after the first p
 pub row_written : (p k : ℕ) (bytes given words : List ℕ) → AllByRecursion IsWord words → given ≡ plain_text words → k ≡ length given → 8 * p + k ≤ length bytes
@@ -61,7 +53,7 @@ row_written p k bytes given words are e same h =
     let after : plain_words (given ++ rest) ≡ words ++ plain_words rest = ap (λ xs. plain_words (xs ++ rest)) e ∙ plain_back words rest are in
     let split : plain_words (front ++ (given ++ rest)) ≡ first_words p bytes ++ (words ++ plain_words rest) =
     plain_join front (given ++ rest) (omega (arith, long)) ∙ ap₂ (λ xs ys. xs ++ ys) (first_taken p bytes (omega (arith, h))) after in
-    search (rules, length-append, append_assoc, plain_words, take-append-le, take_all)
+    search (rules, length-append, append_assoc, take-append-le, take_all)
 
 -- word n was written after the first n
 pub word_appended : (n w : ℕ) (given items : List ℕ) → 8 * n + 8 ≤ length items → plain_words given ≡ set (plain_words items) n w

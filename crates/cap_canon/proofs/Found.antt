@@ -1,15 +1,14 @@
 -- What a pointer word that denotes a tree finds, by the kind of object.
-use Rattle.cap_spec.proofs.ProofNames.{rules}
 use Rattle.cap_spec.specs.Denoting.{places}
 use Rattle.cap_spec.proofs.Canonical.TrimmedMeasures.{tree_count-cut}
 use Rattle.cap_spec.proofs.Lemmas.{extent_scalars, children_needed_le, tree_count-take_le, tree_count-trim_all}
 use Rattle.cap_spec.proofs.Lemmas.{found_form, elements_depth, extent_pointers, extent_struct, extent_structs, one_found}
 use Rattle.cap_spec.proofs.Lemmas.{HasForm, number_list, number_struct}
-use Rattle.cap_spec.proofs.ProofNames.{List, ap, arith, max, refl, subst, sym, take, ℕ, ◌*◌, ◌+◌, ◌∙◌, ◌≡◌, ◌≤◌}
-use Rattle.cap_spec.proofs.ProofNames.{children_needed, children_of, cut_elements, data_needed, data_of, take_trees, trim}
-use Rattle.cap_spec.proofs.ProofNames.{trim_all, trim_elements, AreElements, DenoteEach, Denotes, values_of, words_from}
-use Rattle.cap_spec.proofs.ProofNames.{TagFits, HasWord, code, kind, list_size, list_words}
-use Rattle.cap_spec.proofs.ProofNames.{Tree, Trees, cap, null, pointers, scalars, struct, structs}
+use Rattle.cap_spec.proofs.ProofNames.{rules, List, ap, arith, max, refl, subst, sym, take, ℕ, ◌*◌, ◌+◌, ◌∙◌, ◌≡◌, ◌≤◌}
+use Rattle.cap_spec.proofs.ProofNames.{children_needed, children_of, data_needed, data_of, take_trees, trim, trim_all}
+use Rattle.cap_spec.proofs.ProofNames.{trim_elements, AreElements, DenoteEach, Denotes, words_from, TagFits, HasWord}
+use Rattle.cap_spec.proofs.ProofNames.{code, kind, list_size, Tree, Trees, cap, null, pointers, scalars, struct}
+use Rattle.cap_spec.proofs.ProofNames.{structs}
 use Rattle.cap_spec.proofs.Trees.OneTree.{elements_moved}
 use Rattle.cap_ptr.specs.Shapes.{FindsObject}
 use Rattle.cap_vet.proofs.Founds.{object_at}
@@ -34,20 +33,7 @@ struct_found m s w x c d {k} {t} {b} {q} {tag} {n} {charge} {ds} {ps} h f = go x
     go null g h = absurd (omega (arith, g))
     go (cap i) g h = absurd (omega (arith, g))
     go (struct ws ts) g (k', t', b', q', tag', ds', ps', inner, deep, found', own, each) =
-        let o = one_found found'.object (object_at m s w k t b q tag n charge (shape.Struct ds ps) f) in
-        let x : ds' ≡ ds = cc o.kind in
-        let y : ps' ≡ ps = cc o.kind in
-        let e : places t' (b' + ds') ps' ≡ places t (b + ds) ps = rw (o.segment, o.start, x, y) refl in record {
-          found = search (rules, kind, extent_struct);
-          words = ws;
-          children = ts;
-          inner = inner;
-          deep = deep;
-          tree = refl;
-          data_words = own ∙ rw (o.segment, o.start, x) refl;
-          below = subst (λ p. DenoteEach m p ts inner deep) e each;
-          levels = omega (arith, found'.depth);
-        }
+        search (rules, one_found found'.object (object_at _ _ _ _ _ _ _ _ _ _ _ f), extent_struct)
     go (scalars e vs) g h = absurd (omega (arith, g.0))
     go (pointers ts) g h = absurd (omega (arith, g))
     go (structs y z es) g h = absurd (omega (arith, g))
@@ -80,7 +66,7 @@ struct_object m s w d p x k e dle f cle =
 pub scalars_object : (m : List (List ℕ)) (s w : ℕ) (x : Tree) (c d : ℕ) {k t b q tag words charge : ℕ} (code count : ℕ) → Denotes m s w x c d
     → FindsObject m s w k t b q tag words charge (shape.Scalars code count) → IsObject m d s w (trim x) (object.Scalars t b code count words)
 scalars_object m s w x c d {k} {t} {b} {q} {tag} {words} {charge} code' count h f =
-    search (rules, code, number_list, kind, found_form, list_words, extent_scalars, trim, null, cap, struct, scalars, one_found, object_at, values_of, pointers, structs)
+    search (rules, number_list, found_form, extent_scalars, null, cap, struct, scalars, one_found, object_at, structs)
 
 -- a list of pointers
 pub pointers_object : (m : List (List ℕ)) (s w : ℕ) (x : Tree) (c d : ℕ) {k t b q tag words charge : ℕ} (count : ℕ) → Denotes m s w x c d
@@ -88,7 +74,7 @@ pub pointers_object : (m : List (List ℕ)) (s w : ℕ) (x : Tree) (c d : ℕ) {
 pointers_object m s w x c d {k} {t} {b} {q} {tag} {words} {charge} count h f = go x form h
   where
     form : HasForm x 9
-    form = search (rules, number_list, kind, code, found_form)
+    form = search (rules, number_list, found_form)
 
     go : (x : Tree) → HasForm x 9 → Denotes m s w x c d → IsObject m d s w (trim x) (object.Pointers t b count)
     go null g h = absurd (omega (arith, g))
@@ -102,19 +88,7 @@ pointers_object m s w x c d {k} {t} {b} {q} {tag} {words} {charge} count h f = g
         let row : DenoteEach m (places t b count) ts inner deep = subst (λ p. DenoteEach m p ts inner deep) e each in (
           deep,
           omega (arith, found.depth),
-          record {
-            k = k;
-            q = q;
-            finds = f.finds;
-            kind = f.object.shape.kind;
-            code = f.object.shape.code;
-            count = f.object.shape.count;
-            children = trim_all ts;
-            tree = refl;
-            many = tree_count-trim_all ts ∙ row_count m t b count ts inner deep row;
-            inside = omega (arith, f.finds.inside.inside, extent_pointers q f.object.shape.kind f.object.shape.code, f.object.shape.count);
-            below = row_left m t b count deep ts inner deep row (omega arith);
-          },
+          search (rules, tree_count-trim_all, row_count, extent_pointers, row_left),
         )
     go (structs y z es) g h = absurd (omega (arith, g))
 
@@ -124,7 +98,7 @@ pub structs_found : (m : List (List ℕ)) (s w : ℕ) (x : Tree) (c d : ℕ) {k 
 structs_found m s w x c d {k} {t} {b} {q} {tag} {words} {charge} size {n} {ds} {ps} h f = go x form h
   where
     form : HasForm x 10
-    form = search (rules, number_list, kind, code, found_form)
+    form = search (rules, number_list, found_form)
 
     tagged : HasWord m t b tag × TagFits tag (list_size q)
     tagged = f.object.tagged (f.object.shape.kind, f.object.shape.code)
@@ -139,18 +113,7 @@ structs_found m s w x c d {k} {t} {b} {q} {tag} {words} {charge} size {n} {ds} {
     go (scalars e vs) g h = absurd (omega (arith, g.1))
     go (pointers ts) g h = absurd (omega (arith, g))
     go (structs y z es) g (k', t', b', q', tag', n', inner, deep, found', each) =
-        let o = one_found found'.object (object_at m s w k t b q tag words charge (shape.Structs size n ds ps) f) in
-        let dsame : ds ≡ y = cc o.kind in
-        let psame : ps ≡ z = cc o.kind in
-        let nsame : n ≡ n' = cc o.kind in record {
-          found = search (rules, kind, code, extent_structs);
-          elements = es;
-          inner = inner;
-          deep = deep;
-          tree = rw (dsame, psame) refl;
-          below = search (rules, elements_moved);
-          levels = omega (arith, found'.depth);
-        }
+        search (rules, one_found found'.object (object_at _ _ _ _ _ _ _ _ _ _ _ f), extent_structs, elements_moved)
 
 pub structs_object : (m : List (List ℕ)) (s w b n d : ℕ) (p : Part) (x : Tree) → p.start ≡ b + 1 → IsStructsAt m s w p.segment b n p.data_words p.pointers x d
     → p.data_left ≡ most_data m p.segment p.start p.data_words p.pointers n → p.data_left ≤ p.data_words
@@ -163,4 +126,4 @@ structs_object m s w b n d p x at k e dle f cle =
     let most = most_data_of m p.segment p.start p.data_words p.pointers n k.elements k.inner k.deep all in
     let need : data_of us ≡ p.data_left = data_of-trim k.elements ∙ (sym most ∙ sym e) in
     let left : children_of us ≡ p.pointers_left = children_of-trim k.elements ∙ sym (f k.elements k.inner k.deep all) in
-    search (rules, elements_depth, cut_elements, trim, tree_count-cut, tree_count-trim_elements, elements_left)
+    search (rules, elements_depth, tree_count-cut, tree_count-trim_elements, elements_left)

@@ -5,16 +5,15 @@ use Rattle.cap_spec.specs.Tree.{none}
 use Rattle.cap_spec.specs.declared.Step.TheVariants.{Item, Ptr}
 use Rattle.cap_spec.proofs.Lemmas.{one_word, one_lead, near_has_none, extent_pointers, extent_struct, extent_structs}
 use Rattle.cap_spec.proofs.Lemmas.{extra_same, range_length, object_parts, one_tree}
-use Rattle.cap_spec.proofs.ProofNames.{Bool, List, None, [], ap, arith, false, if◌then◌else◌, inl, inr, length}
-use Rattle.cap_spec.proofs.ProofNames.{max, ne_eqb, not, refl, subst, suc, sym, true, zero, ℕ, ◌*◌, ◌++◌, ◌+◌}
-use Rattle.cap_spec.proofs.ProofNames.{◌-◌, ◌<◌, ◌==◌, ◌^◌, ◌↔◌, ◌∙◌, ◌∷◌, ◌≡◌, ◌≢◌, ◌≤◌, eqb_tells}
-use Rattle.cap_spec.proofs.ProofNames.{length-map-range_with_len, children_needed, children_of, data_needed, layout}
-use Rattle.cap_spec.proofs.ProofNames.{list_word, pointer_to, struct_word, trim, IsCanonical, AreElements, DenoteEach}
-use Rattle.cap_spec.proofs.ProofNames.{Denotes, Finds, element_levels, value_at, values_of, words_from, IsComposite}
-use Rattle.cap_spec.proofs.ProofNames.{Lead, Leads, Says, extra, to_cap, to_null, to_object, HasWord, segment_of}
-use Rattle.cap_spec.proofs.ProofNames.{Costs, Reaches, HasWordsAt, code, data_size, element_bits, extent, kind}
-use Rattle.cap_spec.proofs.ProofNames.{list_size, middle, pointer_size, scalar_words, IsStrict, Tree, Trees, has_cap}
-use Rattle.cap_spec.proofs.ProofNames.{more, struct, tree_count, rules}
+use Rattle.cap_spec.proofs.ProofNames.{Bool, List, None, [], ap, arith, false, if◌then◌else◌, inl, inr, length, max}
+use Rattle.cap_spec.proofs.ProofNames.{ne_eqb, refl, subst, suc, sym, true, zero, ℕ, ◌*◌, ◌++◌, ◌+◌, ◌-◌, ◌<◌, ◌==◌}
+use Rattle.cap_spec.proofs.ProofNames.{◌^◌, ◌↔◌, ◌∙◌, ◌∷◌, ◌≡◌, ◌≢◌, ◌≤◌, length-map-range_with_len, children_needed}
+use Rattle.cap_spec.proofs.ProofNames.{children_of, data_needed, layout, list_word, pointer_to, struct_word, trim}
+use Rattle.cap_spec.proofs.ProofNames.{IsCanonical, AreElements, DenoteEach, Denotes, Finds, element_levels, value_at}
+use Rattle.cap_spec.proofs.ProofNames.{values_of, words_from, IsComposite, Lead, Leads, Says, extra, to_cap, to_null}
+use Rattle.cap_spec.proofs.ProofNames.{to_object, HasWord, segment_of, Costs, Reaches, HasWordsAt, code, data_size}
+use Rattle.cap_spec.proofs.ProofNames.{element_bits, extent, kind, list_size, middle, pointer_size, scalar_words}
+use Rattle.cap_spec.proofs.ProofNames.{IsStrict, Tree, Trees, more, struct, tree_count, rules}
 use Rattle.cap_spec.proofs.Trees.Charges.{one_cost}
 use Rattle.cap_ptr.specs.Rows.{HasPointers}
 use Rattle.cap_ptr.specs.Shapes.{FindsObject, IsShape}
@@ -28,10 +27,9 @@ use Rattle.cap_canon.specs.InOrder.{AreDue, HasDiffered, HasOwn, IsAsInCopy, IsC
 use Rattle.cap_canon.specs.InOrder.{IsNextInOrder, IsOwn, LeadsToEnd, MayStartAt}
 use Rattle.cap_canon.specs.NullsInOrder.{null_compared}
 use Rattle.cap_canon.specs.Objects.{IsLeft}
-use Rattle.cap_canon.specs.CanonNames.{Step, Report, IsChecked, Differs, HasNoWords, IsNotCanonical, NoCopyHas}
-use Rattle.cap_canon.specs.CanonNames.{AreBefore, Due, IsPointed, Laid, OwnAt, below, element_slots, own_size, slots}
-use Rattle.cap_canon.specs.CanonNames.{AreElementsLeft, AreLeft, IsObject, ForTrimmed, longest_copy, NeedsLess}
-use Rattle.cap_canon.specs.CanonNames.{most_data, Object, Part}
+use Rattle.cap_canon.specs.CanonNames.{Step, Report, IsChecked, Differs, IsNotCanonical, NoCopyHas, AreBefore, Due}
+use Rattle.cap_canon.specs.CanonNames.{IsPointed, OwnAt, below, element_slots, own_size, slots, AreElementsLeft}
+use Rattle.cap_canon.specs.CanonNames.{AreLeft, IsObject, ForTrimmed, longest_copy, NeedsLess, most_data, Object, Part}
 use Rattle.cap_canon.specs.Trimming.{NeedsAll}
 use Rattle.cap_canon.proofs.CheckWalks.{check_first, check_on}
 use Rattle.cap_canon.proofs.Copies.{copy_charged, no_cap_reached}
@@ -50,17 +48,13 @@ use Rattle.cap_canon.specs.declared.objects.Object.TheVariants as object
 
 -- words ahead that are due, one after the other
 due_join : (m : List (List ℕ)) (xs ys : List Ahead) (ds es : List Due) → AreDue m xs ds → AreDue m ys es → AreDue m (xs ++ ys) (ds ++ es)
-due_join m [] ys [] es h k = k
-due_join m [] ys (x ∷ ds) es h k = absurd h
-due_join m (a ∷ xs) ys [] es h k = absurd h
 due_join m (a ∷ xs) ys (x ∷ ds) es h k = (h.0, h.1, h.2, due_join m xs ys ds es h.3 k)
+due_join m xs ys ds es h k = search rules
 
 -- the pointer words of a row
 row_due : (m : List (List ℕ)) (deep : ℕ) (base : List Step) (level : ℕ) (step : ℕ → Step) (t b a i n : ℕ) (us : Trees) → tree_count us ≡ n
     → (0 < n → (t ≡ 0) × (b ≡ a)) → AreLeft m deep t b us → AreDue m (row base level step t b i n) (slots a us)
 row_due m deep base level step t b a i zero none e z h = tt
-row_due m deep base level step t b a i zero (more u us) e z h = absurd (omega (arith, e))
-row_due m deep base level step t b a i (suc n) none e z h = absurd (omega (arith, e))
 row_due m deep base level step t b a i (suc n) (more u us) e z h =
     let (segment, at) = z (omega arith) in (
       segment,
@@ -68,16 +62,15 @@ row_due m deep base level step t b a i (suc n) (more u us) e z h =
       (deep, subst (λ v. IsLeft m deep 0 v u) at (subst (λ s. IsLeft m deep s b u) segment h.0)),
       row_due m deep base level step t (b + 1) (a + 1) (i + 1) n us (omega (arith, e)) (λ _. (segment, omega (arith, at))) h.1,
     )
+row_due m deep base level step t b a i n us e z h = search rules
 
 -- and those of elements of which nothing is cut
 elements_due : (m : List (List ℕ)) (deep : ℕ) (base : List Step) (level t b a d p i n : ℕ) (es : Trees) → t ≡ 0 → b ≡ a → tree_count es ≡ n
     → AreElementsLeft m deep t b d p d p es → AreDue m (element_rows base level t b d p i n) (element_slots d p a es)
 elements_due m deep base level t b a d p i zero none z at e h = tt
-elements_due m deep base level t b a d p i zero (more u es) z at e h = absurd (omega (arith, e))
-elements_due m deep base level t b a d p i (suc n) none z at e h = absurd (omega (arith, e))
 elements_due m deep base level t b a d p i (suc n) (more (struct ws us) es) z at e h =
     search (rules, due_join, row_due, elements_due m deep base level t (b + d + p) (a + d + p) d p (i + 1) n es z (omega (arith, at)) (omega (arith, e)) h.3)
-elements_due m deep base level t b a d p i (suc n) (more _ es) z at e h = absurd h
+elements_due m deep base level t b a d p i n es z at e h = search rules
 
 -- An object's own words are those of the copy, with its pointer words due.
 own_of : (m : List (List ℕ)) (w end now q tag t b d : ℕ) (u : Tree) (o : Object) → w < end → HasWord m 0 w (pointer_to (end - w - 1) u)
@@ -97,12 +90,12 @@ struct_own m w end k t b q tag words charge d p s f has sizes children x c deep 
     let o = struct_object m 0 w deep part x (struct_found m 0 w x c deep h f) sizes (omega arith) children (omega arith) in
     let l : length o.2.words ≡ d = ap length o.2.data_words ∙ range_length m t b d (omega (arith, o.2.found.inside)) in
     let e : pointer_to (end - w - 1) (trim x) ≡ (if (d + p) == 0 then 2 ^ 32 - 4 else struct_word (end - w - 1) d p) =
-    search (rules, pointer_to, struct_word) in
+    search rules in
     let here : HasWord m 0 w (pointer_to (end - w - 1) (trim x)) = subst (λ z. HasWord m 0 w z) (sym e) has in
     let place = struct_place m o.0 w end (trim x) part o.2 s.after (omega (arith, s.inside, s.few)) s.inside here in
     let size : own_size (trim x) ≡ length o.2.words + tree_count o.2.children = ap own_size o.2.tree in
     let extent = extent_struct q f.object.shape.kind in
-    let ends : end + words ≡ end + own_size (trim x) = search (rules, extent) in
+    let ends : end + words ≡ end + own_size (trim x) = search rules in
     own_of m w end (end + words) q tag t b deep (trim x) (object.Struct part) s.after here place.own ends o (λ path level.
     let due : AreDue m (row path (level + 1) Ptr t (b + d) 0 p) (slots (end + d) o.2.children) =
     row_due m o.0 path (level + 1) Ptr t (b + d) (end + d) 0 p o.2.children o.2.many place.place o.2.below in
@@ -117,7 +110,7 @@ pub pointers_own : (m : List (List ℕ)) (w end k t b q tag words charge n : ℕ
     → HasOwn m w end (end + words) q tag t b
 pointers_own m w end k t b q tag words charge n s f has x c deep h =
     let o = pointers_object m 0 w x c deep n h f in
-    let e : pointer_to (end - w - 1) (trim x) ≡ list_word (end - w - 1) 6 n = search (rules, pointer_to, list_word) in
+    let e : pointer_to (end - w - 1) (trim x) ≡ list_word (end - w - 1) 6 n = search rules in
     let here : HasWord m 0 w (pointer_to (end - w - 1) (trim x)) = subst (λ z. HasWord m 0 w z) (sym e) has in
     let place = pointers_place m o.0 w end (trim x) t b n o.2 s.after (omega (arith, s.inside, s.few)) here in
     let size : own_size (trim x) ≡ tree_count o.2.children = ap own_size o.2.tree in
@@ -135,9 +128,8 @@ pub values_own : (m : List (List ℕ)) (w end k t b q tag words charge c n : ℕ
     → FindsObject m 0 w k t b q tag words charge (shape.Scalars c n) → HasWord m 0 w (list_word (end - w - 1) c n)
     → HasWordsAt (segment_of m 0) end (scalar_words c (values_of m 0 end c n)) → HasOwn m w end (end + words) q tag t b
 values_own m w end k t b q tag words charge c n s f has lie x cost deep h =
-    let o = scalars_object m 0 w x cost deep c n h f in
-    let many : length (values_of m t b c n) ≡ n = length-map-range_with_len (value_at (segment_of m t) b (element_bits c)) 0 n in
-    search (rules, pointer_to, trim, list_word, scalars_place, segment_of, code, ne_eqb, own_of)
+    search (rules, scalars_object m 0 w x cost deep c n h f,
+        length-map-range_with_len (value_at (segment_of m t) b (element_bits c)) 0 n, scalars_place, ne_eqb)
 
 -- how many elements a list of structs has, and that they exist
 pub structs_inside : (m : List (List ℕ)) (w k t b q tag words charge size n d p : ℕ)
@@ -161,7 +153,7 @@ structs_own m w end k t b q tag words charge size n d p s f has has_tag sizes ch
     let part : Part = record { segment = t; start = b + 1; data_words = d; pointers = p; data_left = d; pointers_left = p } in
     let o = structs_object m 0 w b n deep part x refl (structs_found m 0 w x c deep size h f) sizes (omega arith) children
     (omega arith) in
-    let e : pointer_to (end - w - 1) (trim x) ≡ list_word (end - w - 1) 7 (n * (d + p)) = search (rules, pointer_to, list_word) in
+    let e : pointer_to (end - w - 1) (trim x) ≡ list_word (end - w - 1) 7 (n * (d + p)) = search rules in
     let here : HasWord m 0 w (pointer_to (end - w - 1) (trim x)) = subst (λ z. HasWord m 0 w z) (sym e) has in
     let place = structs_place m o.0 w end (trim x) n part o.2 s.after (omega (arith, s.inside, s.few)) here in
     let lie = structs_lie m o.0 w end (trim x) n part o.2 place has_tag in
@@ -248,10 +240,7 @@ not_laid m a later w end whole e unlike few k same = go k.due k.are_due k.before
         let fits = owed_fits m deep 0 0 x.slot x.tree (y, cost, deep, denotes, left, omega arith) in
         let laid = (object_laid (segment_of m 0) end x.slot x.tree due fits).0 (checked.laid.1 same) in
         let pointed : IsPointed (segment_of m 0) end w (trim y) = subst (λ v. IsPointed (segment_of m 0) end v (trim y)) slot
-        (subst (λ (u : Tree). IsPointed (segment_of m 0) end x.slot u) left laid.0) in
-        unlike y cost deep here (omega (arith, slot, before.0)) (omega (arith, checked.inside, few)) pointed
-        (subst (λ (u : Tree). OwnAt (segment_of m 0) end u) left laid.1) due
-        (subst (λ (u : Tree). Laid (segment_of m 0) (end + own_size u) (below end u ++ due)) left laid.2)
+        (subst (λ (u : Tree). IsPointed (segment_of m 0) end x.slot u) left laid.0) in search rules
 
 -- and the message isn't canonical.
 pub not_canonical : (m : List (List ℕ)) (seen : List (List Step)) (a : Ahead) (s w n cost end : ℕ) → IsLookedAt m seen a s w n cost
@@ -266,7 +255,7 @@ says_near m s w k word r has c h = search (rules, one_word)
 
 -- a word of kind 3 that can be followed leads to a capability
 leads_to_cap : (m : List (List ℕ)) (s w cost word : ℕ) → HasWord m s w word → kind word ≡ 3 → Costs m s w cost → (k i : ℕ) × Leads m s w k (to_cap i)
-leads_to_cap m s w cost word has c (inl h) = search (rules, says_near, to_null, kind)
+leads_to_cap m s w cost word has c (inl h) = search (rules, says_near, to_null)
 leads_to_cap m s w cost word has c (inr (inl (i, h))) = (cost, i, h)
 leads_to_cap m s w cost word has c (inr (inr (k, t, b, q, tag, f, has', e))) = search (rules, says_near, to_object)
 
@@ -314,13 +303,7 @@ compared_on {m} seen a {s} {w} {n} {cost} end now l (inl (null, e)) k =
 compared_on {m} seen a {s} {w} {n} {cost} end now l (inr x) (inl k) = inl (next_in_order m seen a s w n cost end now l x k)
 compared_on seen a end now l (inr x) (inr (e, k)) = absurd (omega (arith, e, x.after))
 
--- A message of another number of segments than one, one without words, and one that is too long aren't canonical.
-pub other_count : (m : List (List ℕ)) → length m ≢ 1 → IsNotCanonical m
-other_count m other t c d h few (words, k, e) = other (ap length e)
-
-pub empty_differs : (m : List (List ℕ)) → length (segment_of m 0) ≡ 0 → IsNotCanonical m
-empty_differs m free t c d h few k = search rules
-
+-- A message that is too long isn't canonical.
 pub long_differs : (m : List (List ℕ)) → longest_copy < length (segment_of m 0) → IsNotCanonical m
 long_differs m long t c d h few k = search (rules, copy_charged)
 
@@ -360,11 +343,8 @@ canonical_at_end m seen end r t trail k report caps = (to, from)
     laid : (end ≡ length (segment_of m 0)) ↔ (segment_of m 0 ≡ layout (trim t))
     laid = (checked_at_end m seen end trail k t r.charge r.depth report.within.denotes).laid
 
-    no_caps : has_cap t ≡ false
-    no_caps = ap (λ n. not (n == 0)) (sym report.caps ∙ caps)
-
     to : end ≡ length (segment_of m 0) → IsCanonical m
-    to e = search (rules, segment_of, no_caps, laid, one_segment)
+    to e = search (rules, laid, one_segment)
 
     from : IsCanonical m → end ≡ length (segment_of m 0)
     from (words, h, e) =
@@ -412,22 +392,14 @@ module _ (m : List (List ℕ)) (w word end cost : ℕ) (l : LeadsToEnd m w word 
 
   object_of : (n : ℕ) (x : Shape) → HasPointers word n → word ≢ 0 → IsShape word 0 x → FindsObject m 0 w 0 0 end word 0 cost cost x
   object_of n x pointers some is =
-      let plain = pointers-plain word n pointers in
-      let none = pointers-no_extra word n pointers in
-      let (finds, words, inside) = row_there n pointers some in search rules
+      search (rules, pointers-plain word n pointers, pointers-no_extra word n pointers, row_there n pointers some)
 
   row_next : (n : ℕ) → HasPointers word n → word ≢ 0 → HasOwn m w end (end + cost) word 0 0 end → IsNextInOrder m w end (end + cost)
-  row_next n pointers some own =
-      let plain = pointers-plain word n pointers in
-      let (finds, words, inside) = row_there n pointers some in search rules
+  row_next n pointers some own = search (rules, pointers-plain word n pointers, row_there n pointers some)
 
   -- It is a struct that costs something,
   struct_some : cost ≢ 0 → word ≢ 0
   struct_some some = search (rules, one_cost)
-
-  -- or it has no words,
-  pub struct_empty : kind word ≡ 0 → cost ≡ 0 → HasNoWords word
-  struct_empty k free = search (rules, eqb_tells, row_there, extent_struct)
 
   pub struct_inside : kind word ≡ 0 → cost ≢ 0 → (end + data_size word + pointer_size word ≤ length (segment_of m 0)) × (end + cost ≤ length (segment_of m 0))
   struct_inside k some = search (rules, row_there, struct_some, extent_struct)
@@ -462,7 +434,7 @@ module _ (m : List (List ℕ)) (w word end cost : ℕ) (l : LeadsToEnd m w word 
   pointers_next small k c =
       let n = list_size word in
       let pointers : HasPointers word n = inr (inl (k, c, refl)) in
-      let same : word ≡ list_word (end - w - 1) 6 n = search (rules, list_by_fields, list_word, code, offset) in
+      let same : word ≡ list_word (end - w - 1) 6 n = search (rules, list_by_fields, offset) in
       row_next n pointers (list_some k)
       (pointers_own m w end 0 0 end word 0 cost cost n l.placed
       (object_of n (shape.Pointers n) pointers (list_some k) (record { kind = k; code = c; count = refl })) (subst (HasWord m 0 w) same l.has))
@@ -484,7 +456,3 @@ module _ (m : List (List ℕ)) (w word end cost : ℕ) (l : LeadsToEnd m w word 
       (values_own m w end 0 0 end word 0 cost cost c n l.placed
       (object_of 0 (shape.Scalars c n) pointers (list_some k) (record { kind = k; code = refl; scalar = few; count = refl }))
       (subst (HasWord m 0 w) same l.has) lie)
-
-  pub values_differ : kind word ≡ 1 → 0 < code word → code word < 6
-      → (HasWordsAt (segment_of m 0) end (scalar_words (code word) (values_of m 0 end (code word) (list_size word))) → ⊥) → NoCopyHas m w end
-  values_differ k some few lie x charge deep h lt small pointed own due laid = search (rules, scalars_object, object_of, list_some)

@@ -1,10 +1,9 @@
 -- A list of structs, whose word leads to the end, that is as a copy has it, or not.
-use Rattle.cap_spec.proofs.ProofNames.{rules}
 use Rattle.cap_spec.proofs.Lemmas.{start_after, HasWord-segment, one_word, extent_structs}
-use Rattle.cap_spec.proofs.ProofNames.{List, ap, arith, false, if◌then◌else◌, length, pos, refl, subst, sym}
-use Rattle.cap_spec.proofs.ProofNames.{true, ℕ, ◌*◌, ◌+◌, ◌-◌, ◌<◌, ◌==◌, ◌^◌, ◌≡◌, ◌≢◌, ◌≤◌, ◌⊎◌, eqb_tells}
-use Rattle.cap_spec.proofs.ProofNames.{list_word, struct_word, HasWord, segment_of, code, data_size, kind, list_size}
-use Rattle.cap_spec.proofs.ProofNames.{middle, pointer_size}
+use Rattle.cap_spec.proofs.ProofNames.{rules, List, ap, arith, false, if◌then◌else◌, length, pos, refl, subst, sym}
+use Rattle.cap_spec.proofs.ProofNames.{true, ℕ, ◌*◌, ◌+◌, ◌-◌, ◌<◌, ◌==◌, ◌^◌, ◌≡◌, ◌≢◌, ◌≤◌, ◌⊎◌, eqb_tells, list_word}
+use Rattle.cap_spec.proofs.ProofNames.{struct_word, HasWord, segment_of, code, data_size, kind, list_size, middle}
+use Rattle.cap_spec.proofs.ProofNames.{pointer_size}
 use Rattle.cap_ptr.specs.Reaching.{LeadsTo}
 use Rattle.cap_ptr.specs.Shapes.{FindsObject}
 use Rattle.cap_ptr.proofs.Objects.{found-structs}
@@ -30,10 +29,10 @@ module _ (m : List (List ℕ)) (w end word tag cost : ℕ) (l : LeadsToEnd m w w
   inside = (structs_there m w word end cost l list.0 list.1).3
 
   fits : middle tag * (data_size tag + pointer_size tag) ≤ list_size word
-  fits = search (rules, structs_there, middle, data_size, pointer_size, list_size, one_word)
+  fits = search (rules, structs_there, one_word)
 
   tag_kind : kind tag ≡ 0
-  tag_kind = search (rules, structs_there, kind, one_word)
+  tag_kind = search (rules, structs_there, one_word)
 
   abbrev n : ℕ
   n = middle tag
@@ -51,13 +50,13 @@ module _ (m : List (List ℕ)) (w end word tag cost : ℕ) (l : LeadsToEnd m w w
   empty_few x1 = search rules
 
   object : FindsObject m 0 w 0 0 end word tag (1 + list_size word) (0 + 1 + list_size word + empty) (shape.Structs (list_size word) n d p)
-  object = search (rules, extent_structs, found-structs, leads_to_end, HasWord-segment, list_size, inside, tag_kind, fits, empty_few, eqb_tells)
+  object = search (rules, extent_structs, found-structs, leads_to_end, HasWord-segment, inside, tag_kind, fits, empty_few, eqb_tells)
 
   pub structs_next : n * (d + p) ≡ list_size word → word < 2 ^ 64 → tag < 2 ^ 64 → ListNeedsAll m 0 (end + 1) d p n
       → IsNextInOrder m w end (end + 1 + list_size word)
   structs_next all small tag_small needs =
       let offset : middle word ≡ end - w - 1 = omega (arith, l.next) in
-      let same : word ≡ list_word (end - w - 1) 7 (n * (d + p)) = search (rules, list_by_fields, list_word, code, list_size) in
+      let same : word ≡ list_word (end - w - 1) 7 (n * (d + p)) = search (rules, list_by_fields) in
       let tag_same : tag ≡ struct_word n d p = struct_by_fields tag tag_small tag_kind in
       let e : end + (1 + list_size word) ≡ end + 1 + list_size word = omega arith in
       let own = structs_own m w end 0 0 end word tag (1 + list_size word) (0 + 1 + list_size word + empty) (list_size word) n d p l.placed object

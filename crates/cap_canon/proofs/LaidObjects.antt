@@ -1,16 +1,13 @@
 -- When the words of a message are those that a copy has, one object at a time.
-use Rattle.cap_spec.specs.Tree.{none}
 use Rattle.cap_spec.proofs.Lemmas.{all_append, lie_back, list_fields, struct_fields, one_word, range_length}
-use Rattle.cap_spec.proofs.ProofNames.{List, [], arith, length, subst, suc, sym, zero, ℕ, ◌*◌, ◌++◌, ◌+◌, ◌-◌, ◌<◌}
-use Rattle.cap_spec.proofs.ProofNames.{◌^◌, ◌∷◌, ◌≡◌, ◌≤◌, eqb_tells, nil_from_length, length-map-range_with_len}
-use Rattle.cap_spec.proofs.ProofNames.{mul-le, AllByRecursion, list_word, pointer_to, struct_word, Finds, values_of}
-use Rattle.cap_spec.proofs.ProofNames.{words_from, HasWord, segment_of, HasWordsAt, list_size, list_words}
-use Rattle.cap_spec.proofs.ProofNames.{scalar_words, Tree, Trees, cap, more, scalars, struct, tree_count, IsWord}
-use Rattle.cap_spec.proofs.ProofNames.{field, rules}
+use Rattle.cap_spec.proofs.ProofNames.{List, [], arith, length, subst, suc, sym, zero, ℕ, ◌*◌, ◌++◌, ◌+◌, ◌-◌, ◌<◌, ◌^◌}
+use Rattle.cap_spec.proofs.ProofNames.{◌∷◌, ◌≡◌, ◌≤◌, eqb_tells, nil_from_length, length-map-range_with_len, mul-le}
+use Rattle.cap_spec.proofs.ProofNames.{AllByRecursion, list_word, pointer_to, struct_word, Finds, values_of, words_from}
+use Rattle.cap_spec.proofs.ProofNames.{HasWord, segment_of, HasWordsAt, list_size, list_words, scalar_words, Tree}
+use Rattle.cap_spec.proofs.ProofNames.{Trees, more, scalars, struct, tree_count, IsWord, field, rules}
 use Rattle.cap_canon.specs.InPlace.{LiesIn}
 use Rattle.cap_canon.specs.Laying.{DataAt, IsPointed, OwnAt, own_size}
-use Rattle.cap_canon.specs.Objects.{AreElementsLeft, IsPointersObject, IsScalarsObject, IsStructObject}
-use Rattle.cap_canon.specs.Objects.{IsStructsObject}
+use Rattle.cap_canon.specs.Objects.{AreElementsLeft, IsPointersObject, IsScalarsObject, IsStructObject, IsStructsObject}
 use Rattle.cap_canon.specs.Values.{used_bits}
 use Rattle.cap_canon.specs.declared.objects.Part.{Part}
 use Rattle.cap_canon.proofs.Filling.{scalars_size}
@@ -33,15 +30,14 @@ pub values_lie : (m : List (List ℕ)) (t b c n before x : ℕ) → c < 6 → li
     → AllByRecursion IsWord (words_from m t b before) → HasWord m t (b + before) x → x ≡ field x 0 (used_bits c n before)
     → HasWordsAt (segment_of m t) b (scalar_words c (values_of m t b c n))
 values_lie m t b c n before x lt e inside words last same =
-    let laid = values_laid m t b c n before x lt e inside words last in
-    search (rules, words_from, scalar_words, values_of, segment_of, range_lies, range_more)
+    search (rules, values_laid m t b c n before x lt e inside words last, range_lies, range_more)
 
 pub lie_values : (m : List (List ℕ)) (t b c n before x : ℕ) → c < 6 → list_words c n ≡ before + 1 → b + before < length (segment_of m t)
     → AllByRecursion IsWord (words_from m t b before) → HasWord m t (b + before) x → HasWordsAt (segment_of m t) b (scalar_words c (values_of m t b c n))
     → x ≡ field x 0 (used_bits c n before)
 lie_values m t b c n before x lt e inside words last st =
     let laid = values_laid m t b c n before x lt e inside words last in
-    let there : HasWordsAt (segment_of m t) b (words_from m t b before ++ field x 0 (used_bits c n before) ∷ []) = search (rules, segment_of) in
+    let there : HasWordsAt (segment_of m t) b (words_from m t b before ++ field x 0 (used_bits c n before) ∷ []) = search rules in
     let l : length (words_from m t b before) ≡ before = range_length m t b before (omega (arith, inside)) in
     let back : HasWordsAt (segment_of m t) (b + before) (field x 0 (used_bits c n before) ∷ []) =
     lie_back (segment_of m t) b (b + before) (words_from m t b before) (field x 0 (used_bits c n before) ∷ []) (omega (arith, l)) there in
@@ -91,11 +87,10 @@ scalars_place m slot end u t b c n words h lt small w = search (rules, length-ma
 -- the data words of elements of which nothing was cut
 elements_at : (m : List (List ℕ)) (deep b d p : ℕ) (es : Trees) → AreElementsLeft m deep 0 b d p d p es
     → b + tree_count es * (d + p) ≤ length (segment_of m 0) → DataAt (segment_of m 0) b d p es
-elements_at m deep b d p none a h = omega (arith, h)
 elements_at m deep b d p (more (struct ws us) es) a h =
     let e : suc (tree_count es) * (d + p) ≡ d + p + tree_count es * (d + p) = omega arith in
-    search (rules, segment_of, range_lies, elements_at m deep (b + d + p) d p es a.3 (omega (arith, h, e)))
-elements_at m deep b d p (more _ es) a h = absurd a
+    search (rules, range_lies, elements_at m deep (b + d + p) d p es a.3 (omega (arith, h, e)))
+elements_at m deep b d p es a h = search rules
 
 -- a list of structs, from its tag on
 pub record StructsPlace (m : List (List ℕ)) (x : Part) (end : ℕ) : Type 0 where
@@ -117,14 +112,6 @@ pub structs_lie : (m : List (List ℕ)) (deep slot end : ℕ) (u : Tree) (n : �
     → HasWord m 0 end (struct_word n x.data_left x.pointers_left) → StructsLie m u n x end
 structs_lie m deep slot end u n x h k w = search (rules, one_word, struct_fields, elements_at)
 
--- the pointer word is the one that a copy has
-pub pointed : (m : List (List ℕ)) (slot end x : ℕ) (u : Tree) → slot < end → HasWord m 0 slot x → x ≡ pointer_to (end - slot - 1) u
-    → IsPointed (segment_of m 0) end slot u
-pointed m slot end x u lt h e = (end - slot - 1, omega (arith, lt), subst (λ y. HasWord m 0 slot y) e h)
-
 pub pointed_word : (m : List (List ℕ)) (slot end x : ℕ) (u : Tree) → HasWord m 0 slot x → IsPointed (segment_of m 0) end slot u
     → x ≡ pointer_to (end - slot - 1) u
 pointed_word m slot end x u h p = search (rules, one_word)
-
-pub cap_own : (words : List ℕ) (end i : ℕ) (u : Tree) → u ≡ cap i → end ≤ length words → OwnAt words end u × (end + own_size u ≤ length words)
-cap_own words end i u e h = subst (λ (v : Tree). OwnAt words end v × (end + own_size v ≤ length words)) (sym e) (tt, omega (arith, h))

@@ -1,13 +1,12 @@
 -- One object more of a layout.
-use Rattle.cap_spec.proofs.ProofNames.{rules}
 use Rattle.cap_spec.specs.Tree.{none}
 use Rattle.cap_spec.proofs.Canonical.ElementPlaces.{children_begin, element_end, rest_begin}
 use Rattle.cap_spec.proofs.Canonical.Sizes.{length-contents, length-element_words, length-pointer_words}
 use Rattle.cap_spec.proofs.Lemmas.{lie_back, lie_front, FitElements, Fits}
-use Rattle.cap_spec.proofs.ProofNames.{List, Some, ap, append_assoc, arith, length, refl, slice_get, subst, sym, ℕ, ◌*◌}
-use Rattle.cap_spec.proofs.ProofNames.{◌++◌, ◌+◌, ◌↔◌, ◌∷◌, ◌≡◌, contents, element_contents, element_sizes, element_words}
-use Rattle.cap_spec.proofs.ProofNames.{pointer_words, size, sizes, struct_word, HasWordsAt, Tree, Trees, cap, more, null}
-use Rattle.cap_spec.proofs.ProofNames.{pointers, scalars, struct, structs, tree_count}
+use Rattle.cap_spec.proofs.ProofNames.{rules, List, Some, ap, append_assoc, arith, length, refl, slice_get, subst, sym}
+use Rattle.cap_spec.proofs.ProofNames.{ℕ, ◌*◌, ◌++◌, ◌+◌, ◌↔◌, ◌∷◌, ◌≡◌, contents, element_contents, element_sizes}
+use Rattle.cap_spec.proofs.ProofNames.{element_words, pointer_words, size, sizes, struct_word, HasWordsAt, Tree, Trees}
+use Rattle.cap_spec.proofs.ProofNames.{cap, more, null, pointers, scalars, struct, structs, tree_count}
 use Rattle.cap_canon.specs.Laying.{DataAt, Due, IsPointed, Laid, OwnAt, below, element_slots, own_size, slots}
 use Rattle.cap_canon.proofs.Laying.{due_row, laid_inside, row_due, lie_join}
 
@@ -28,7 +27,7 @@ elements_due words d p b c after (more (struct ws ts) es) due e f sp sc l =
     (element_end b d p ws pw (tree_count ts) f.0 (length-pointer_words (tree_count es * (d + p) + after) ts) f.1) sp)
     (lie_back words c (c + sizes ts) (contents ts) (element_contents es) (ap (λ n. c + n) (sym (length-contents ts f.2))) sc)
     (subst (λ n. Laid words n due) i l) in
-    search (rules, sizes, contents, row_due, children_begin, lie_front, append_assoc)
+    search (rules, row_due, children_begin, lie_front, append_assoc)
 elements_due words d p b c after (more _ es) due e f sp sc l = absurd f
 
 -- the parts of elements that are laid
@@ -39,7 +38,6 @@ pub record ElementsLaid (words : List ℕ) (each b c after : ℕ) (es : Trees) (
 
 pub due_elements : (words : List ℕ) (d p b c after : ℕ) (es : Trees) (due : List Due) → c ≡ b + tree_count es * (d + p) + after → FitElements d p es
     → DataAt words b d p es → Laid words c (element_slots d p b es ++ due) → ElementsLaid words (d + p) b c after es due
-due_elements words d p b c after none due e f da l = search (rules, laid_inside)
 due_elements words d p b c after (more (struct ws ts) es) due e f da l =
     let pw = pointer_words (tree_count es * (d + p) + after) ts in
     let ew = element_words (d + p) (after + sizes ts) es in
@@ -54,7 +52,7 @@ due_elements words d p b c after (more (struct ws ts) es) due e f da l =
       below = lie_join words c (c + sizes ts) (contents ts) (element_contents es) (ap (λ n. c + n) (sym (length-contents ts f.2))) first.below r.below;
       rest = subst (λ n. Laid words n due) i r.rest;
     }
-due_elements words d p b c after (more _ es) due e f da l = absurd f
+due_elements words d p b c after es due e f da l = search (rules, laid_inside)
 
 -- A struct: its pointer, its data words, and then its children are due.
 pub struct_laid : (words : List ℕ) (end slot : ℕ) (ws : List ℕ) (ts : Trees) (due : List Due) → Fits (struct ws ts)
@@ -79,15 +77,14 @@ struct_laid words end slot ws ts due f = (to, from)
     from : IsPointed words end slot (struct ws ts) × HasWordsAt words end ws × Laid words (end + length ws + tree_count ts) (slots (end + length ws) ts ++ due)
         → Laid words end (record { slot = slot; tree = struct ws ts } ∷ due)
     from ((offset, e, p), own, l) =
-        let pw = pointer_words 0 ts in
-        let r = due_row words (end + length ws) (end + length ws + tree_count ts) 0 ts due (omega arith) f.2 l in
+        let r = due_row _ _ _ _ _ _ (omega arith) f.2 l in
         let i : end + length ws + tree_count ts + sizes ts ≡ end + size (struct ws ts) = omega arith in (
           offset,
           e,
           p,
-          lie_join words end (end + length ws + tree_count ts) (ws ++ pw) (contents ts)
-              (element_end end (length ws) (tree_count ts) ws pw (tree_count ts) refl (length-pointer_words 0 ts) refl)
-              (lie_join words end (end + length ws) ws pw refl own r.row) r.below,
+          lie_join _ _ _ _ _
+              (element_end _ _ _ _ _ _ refl (length-pointer_words _ _) refl)
+              (lie_join _ _ _ _ _ refl own r.row) r.below,
           subst (λ n. Laid words n due) i r.rest,
         )
 
@@ -112,12 +109,10 @@ structs_laid words end slot d p es due f = (to, from)
         × Laid words (end + 1 + tree_count es * (d + p)) (element_slots d p (end + 1) es ++ due)
     to (offset, e, q, s, l) =
         let ew = element_words (d + p) 0 es in
-        let n : length ew ≡ tree_count es * (d + p) = length-element_words (d + p) 0 d p es f.4 in
-        let r = elements_due words d p (end + 1) (end + 1 + tree_count es * (d + p)) 0 es due (no_more (end + 1 + tree_count es * (d + p))) f.4
-        (lie_front words (end + 1) ew (element_contents es) s.1)
-        (lie_back words (end + 1) (end + 1 + tree_count es * (d + p)) ew (element_contents es)
-        (structs_after end (tree_count es * (d + p)) (length ew) n) s.1)
-        (subst (λ x. Laid words x due) (sym (structs_rest end (tree_count es * (d + p)) (element_sizes es))) l) in
+        let n : length ew ≡ tree_count es * (d + p) = length-element_words _ _ _ _ _ f.4 in
+        let r = elements_due _ _ _ _ _ _ _ _ (no_more _) f.4 (lie_front _ _ _ _ s.1)
+        (lie_back _ _ _ _ _ (structs_after _ _ _ n) s.1)
+        (subst (λ x. Laid words x due) (sym (structs_rest _ _ _)) l) in
         ((offset, e, q), s.0, r.0, r.1)
 
     from : IsPointed words end slot (structs d p es) × (slice_get words end ≡ Some (struct_word (tree_count es) d p)) × DataAt words (end + 1) d p es
@@ -126,17 +121,8 @@ structs_laid words end slot d p es due f = (to, from)
     from ((offset, e, q), tag, da, l) =
         let ew = element_words (d + p) 0 es in
         let n : length ew ≡ tree_count es * (d + p) = length-element_words (d + p) 0 d p es f.4 in
-        let r = due_elements words d p (end + 1) (end + 1 + tree_count es * (d + p)) 0 es due (no_more (end + 1 + tree_count es * (d + p))) f.4 da l in (
-          offset,
-          e,
-          q,
-          (
-            tag,
-            lie_join words (end + 1) (end + 1 + tree_count es * (d + p)) ew (element_contents es)
-                (structs_after end (tree_count es * (d + p)) (length ew) n) r.row r.below,
-          ),
-          subst (λ x. Laid words x due) (structs_rest end (tree_count es * (d + p)) (element_sizes es)) r.rest,
-        )
+        let r = due_elements words d p (end + 1) (end + 1 + tree_count es * (d + p)) 0 es due (no_more (end + 1 + tree_count es * (d + p))) f.4 da l in
+        search (rules, lie_join, structs_after, structs_rest)
 
 -- A list of pointers: its pointer, and then its entries are due.
 pub pointers_laid : (words : List ℕ) (end slot : ℕ) (ts : Trees) (due : List Due) → Fits (pointers ts)
@@ -149,19 +135,14 @@ pointers_laid words end slot ts due f = (to, from)
 
     to : Laid words end (record { slot = slot; tree = pointers ts } ∷ due)
         → IsPointed words end slot (pointers ts) × Laid words (end + tree_count ts) (slots end ts ++ due)
-    to y1 = search (rules, size, pointers, tree_count, sizes, row_due, lie_front, pointer_words, contents, lie_back, following)
+    to y1 = search (rules, row_due, lie_front, lie_back, following)
 
     from : IsPointed words end slot (pointers ts) × Laid words (end + tree_count ts) (slots end ts ++ due)
         → Laid words end (record { slot = slot; tree = pointers ts } ∷ due)
     from ((offset, e, p), l) =
         let r = due_row words end (end + tree_count ts) 0 ts due (omega arith) f.1 l in
-        let i : end + tree_count ts + sizes ts ≡ end + size (pointers ts) = omega arith in (
-          offset,
-          e,
-          p,
-          lie_join words end (end + tree_count ts) (pointer_words 0 ts) (contents ts) following r.row r.below,
-          subst (λ n. Laid words n due) i r.rest,
-        )
+        let i : end + tree_count ts + sizes ts ≡ end + size (pointers ts) = omega arith in
+        search (rules, lie_join, following)
 
 -- no words more
 same_end : (words : List ℕ) (end n : ℕ) (due : List Due) → n ≡ 0 → Laid words (end + n) due → Laid words end due
@@ -180,10 +161,9 @@ pub object_laid : (words : List ℕ) (end slot : ℕ) (u : Tree) (due : List Due
 object_laid words end slot null due f = search (rules, laid_inside, same_end)
 object_laid words end slot (cap i) due f = search (rules, laid_inside, same_end)
 object_laid words end slot (struct ws ts) due f =
-    let r = struct_laid words end slot ws ts due f in
-    let i = sum_back end (length ws) (tree_count ts) in search rules
+    search (rules, struct_laid words end slot ws ts due f, sum_back end (length ws) (tree_count ts))
 object_laid words end slot (scalars c vs) due f = search rules
 object_laid words end slot (pointers ts) due f =
     let r = pointers_laid words end slot ts due f in search rules
 object_laid words end slot (structs d p es) due f =
-    let r = structs_laid words end slot d p es due f in search (rules, sum_three, tree_count)
+    let r = structs_laid words end slot d p es due f in search (rules, sum_three)

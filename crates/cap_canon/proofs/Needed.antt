@@ -1,9 +1,8 @@
 -- How many data words are needed, from the last one down.
 use Rattle.cap_spec.proofs.Lemmas.{data_needed_le, range_length}
-use Rattle.cap_spec.proofs.ProofNames.{List, [], arith, false, get_or, get_or-drop, get_or-take, if◌then◌else◌, length}
-use Rattle.cap_spec.proofs.ProofNames.{max, refl, suc, true, zero, ℕ, ◌*◌, ◌+◌, ◌-◌, ◌<◌, ◌==◌, ◌∷◌, ◌≡◌}
-use Rattle.cap_spec.proofs.ProofNames.{◌≢◌, ◌≤◌, ◌⊎◌, eqb_tells, get_or_from_slice_get, data_needed, words_from}
-use Rattle.cap_spec.proofs.ProofNames.{HasWord, segment_of, rules}
+use Rattle.cap_spec.proofs.ProofNames.{List, arith, false, get_or, get_or-drop, get_or-take, if◌then◌else◌, length, max}
+use Rattle.cap_spec.proofs.ProofNames.{suc, true, zero, ℕ, ◌*◌, ◌+◌, ◌-◌, ◌<◌, ◌==◌, ◌∷◌, ◌≡◌, ◌≢◌, ◌≤◌, ◌⊎◌, eqb_tells}
+use Rattle.cap_spec.proofs.ProofNames.{get_or_from_slice_get, data_needed, words_from, HasWord, segment_of, rules}
 use Rattle.cap_canon.specs.Trimming.{most_data}
 
 -- a word that isn't zero is needed
@@ -17,9 +16,8 @@ pub later_needed : (n y i : ℕ) → suc i ≤ n → (((n == 0) ≡ true) × (n 
 later_needed n y i h k = search rules
 
 pub needed_past : (ws : List ℕ) (i : ℕ) → get_or ws i 0 ≢ 0 → suc i ≤ data_needed ws
-needed_past [] i h = absurd (h refl)
-needed_past (x ∷ xs) zero h = first_needed (data_needed xs) x h (eqb_tells (data_needed xs) 0) (eqb_tells x 0)
 needed_past (x ∷ xs) (suc i) h = later_needed (data_needed xs) (if x == 0 then 0 else 1) i (needed_past xs i h) (eqb_tells (data_needed xs) 0)
+needed_past xs i h = search (rules, first_needed, eqb_tells)
 
 -- a zero word that is last of those needed isn't needed
 first_zero : (n x : ℕ) → x ≡ 0 → (((n == 0) ≡ true) × (n ≡ 0)) ⊎ (((n == 0) ≡ false) × (n ≡ 0 → ⊥)) → (if n == 0 then (if x == 0 then 0 else 1) else suc n) ≤ 1
@@ -34,9 +32,8 @@ one_at_most : (x : ℕ) → (((x == 0) ≡ true) × (x ≡ 0)) ⊎ (((x == 0) �
 one_at_most x h = search rules
 
 pub not_needed : (ws : List ℕ) (i : ℕ) → get_or ws i 0 ≡ 0 → data_needed ws ≤ suc i → data_needed ws ≤ i
-not_needed [] i e h = omega arith
-not_needed (x ∷ xs) zero e h = first_zero (data_needed xs) x e (eqb_tells (data_needed xs) 0) h
-not_needed (x ∷ xs) (suc i) e h = search (rules, later_zero, data_needed, one_at_most, eqb_tells, not_needed xs i e)
+not_needed (x ∷ xs) (suc i) e h = search (rules, later_zero, one_at_most, eqb_tells, not_needed xs i e)
+not_needed xs i e h = search (rules, first_zero, eqb_tells)
 
 -- a word of a range is that of its segment
 pub word_of_range : (m : List (List ℕ)) (s b n i x : ℕ) → i < n → HasWord m s (b + i) x → get_or (words_from m s b n) i 0 ≡ x
@@ -49,7 +46,7 @@ range_needed m s b n h = let e : length (words_from m s b n) ≡ n = range_lengt
 -- no element needs more than its size
 pub most_within : (m : List (List ℕ)) (t b ds ps n : ℕ) → b + n * (ds + ps) ≤ length (segment_of m t) → most_data m t b ds ps n ≤ ds
 most_within m t b ds ps zero h = omega arith
-most_within m t b ds ps (suc n) h = search (rules, data_needed, words_from, range_needed, most_within m t (b + (ds + ps)) ds ps n (omega (arith, h)))
+most_within m t b ds ps (suc n) h = search (rules, range_needed, most_within m t (b + (ds + ps)) ds ps n (omega (arith, h)))
 
 -- the word looked at is needed, so that nothing below it is cut
 pub needed_here : (m : List (List ℕ)) (s b n left least x : ℕ) → least < left → left ≤ n → HasWord m s (b + (left - 1)) x → x ≢ 0
@@ -58,7 +55,7 @@ pub needed_here : (m : List (List ℕ)) (s b n left least x : ℕ) → least < l
 needed_here m s b n left least x lt le h nz most =
     let i : left - 1 < n = omega (arith, lt, le) in
     let e : get_or (words_from m s b n) (left - 1) 0 ≡ x = word_of_range m s b n (left - 1) x i h in
-    search (rules, data_needed, words_from, needed_past)
+    search (rules, needed_past)
 
 -- and one that is zero isn't
 pub needed_below : (m : List (List ℕ)) (s b n left least x : ℕ) → least < left → left ≤ n → HasWord m s (b + (left - 1)) x → x ≡ 0
@@ -79,7 +76,7 @@ pub record ElementsSeen (m : List (List ℕ)) (s start at ds ps count i most : �
 pub element_seen : (m : List (List ℕ)) (s start at ds ps count i most now : ℕ) → i < count → now ≡ max most (data_needed (words_from m s at ds)) → now ≤ ds
     → ElementsSeen m s start at ds ps count i most → ElementsSeen m s start (at + (ds + ps)) ds ps count (i + 1) now
 element_seen m s start at ds ps count i most now lt e w k =
-    let n : count - i ≡ suc (count - (i + 1)) = omega (arith, lt) in search (rules, most_on, data_needed, words_from)
+    let n : count - i ≡ suc (count - (i + 1)) = omega (arith, lt) in search (rules, most_on)
 
 -- all have their size already
 pub enough_seen : (m : List (List ℕ)) (s start at ds ps count i most : ℕ) → i < count → start + count * (ds + ps) ≤ length (segment_of m s) → most ≡ ds

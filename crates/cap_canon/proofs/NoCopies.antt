@@ -1,17 +1,16 @@
 -- Pointer words and objects that no copy has as they are.
 use Rattle.cap_spec.specs.Denoting.{places}
-use Rattle.cap_spec.proofs.Lemmas.{StructFields, list_fields, struct_fields, Fits, children_needed_le, data_needed_le}
+use Rattle.cap_spec.proofs.Lemmas.{list_fields, struct_fields, Fits, children_needed_le, data_needed_le}
 use Rattle.cap_spec.proofs.Lemmas.{tree_count-take_le, one_word, range_length}
 use Rattle.cap_spec.proofs.ProofNames.{List, ap, ap₂, arith, false, inl, inr, length, length-take-le, refl, subst, sym}
-use Rattle.cap_spec.proofs.ProofNames.{take, true, ℕ, ◌*◌, ◌++◌, ◌+◌, ◌-◌, ◌<◌, ◌==◌, ◌^◌, ◌∙◌, ◌≡◌, ◌≢◌, ◌≤◌, ◌⊎◌}
-use Rattle.cap_spec.proofs.ProofNames.{eqb_tells, children_needed, children_of, cut_elements, data_needed, data_of}
-use Rattle.cap_spec.proofs.ProofNames.{pointer_to, struct_word, take_trees, trim, trim_all, trim_elements, AreElements}
-use Rattle.cap_spec.proofs.ProofNames.{DenoteEach, Denotes, words_from, HasWord, segment_of, code, data_size, kind}
-use Rattle.cap_spec.proofs.ProofNames.{list_size, middle, pointer_size, Tree, Trees, struct, structs}
-use Rattle.cap_spec.proofs.ProofNames.{tree_count, rules}
+use Rattle.cap_spec.proofs.ProofNames.{take, true, ℕ, ◌*◌, ◌+◌, ◌-◌, ◌<◌, ◌==◌, ◌^◌, ◌∙◌, ◌≡◌, ◌≢◌, ◌≤◌, ◌⊎◌, eqb_tells}
+use Rattle.cap_spec.proofs.ProofNames.{children_needed, children_of, cut_elements, data_needed, data_of, pointer_to}
+use Rattle.cap_spec.proofs.ProofNames.{struct_word, take_trees, trim, trim_all, trim_elements, AreElements, DenoteEach}
+use Rattle.cap_spec.proofs.ProofNames.{Denotes, words_from, HasWord, segment_of, code, data_size, kind, list_size}
+use Rattle.cap_spec.proofs.ProofNames.{middle, pointer_size, Tree, Trees, struct, structs, tree_count, rules}
 use Rattle.cap_ptr.specs.Shapes.{FindsObject}
-use Rattle.cap_canon.specs.CanonNames.{IsStructAt, Differs, HasNoWords, NoCopyHas, IsPointed, Laid, OwnAt, below}
-use Rattle.cap_canon.specs.CanonNames.{own_size, NeedsLess, most_data}
+use Rattle.cap_canon.specs.CanonNames.{IsStructAt, Differs, HasNoWords, NoCopyHas, IsPointed, OwnAt, NeedsLess}
+use Rattle.cap_canon.specs.CanonNames.{most_data}
 use Rattle.cap_canon.specs.Trimming.{ListNeedsLess}
 use Rattle.cap_canon.proofs.Children.{row_needed}
 use Rattle.cap_canon.proofs.Elements.{most_data_of}
@@ -33,7 +32,7 @@ pub no_word : (m : List (List ℕ)) (w end word : ℕ) → HasWord m 0 w word �
     → (w + 1 + middle word ≡ end → HasNoWords word) → (kind word ≡ 1 → code word ≡ 0 → w + 1 + middle word ≡ end → ⊥) → NoCopyHas m w end
 no_word m w end word has k z n other list x c d h lt small pointed own due laid =
     let e = pointed_word m w end word (trim x) has pointed in
-    let fits = owed_fits m d 0 0 w (trim x) (x, c, d, h, refl, omega arith) in search (rules, word_parts, trim, middle)
+    let fits = owed_fits m d 0 0 w (trim x) (x, c, d, h, refl, omega arith) in search (rules, word_parts)
 
 -- the same where it may be that of a capability
 pub other_differs : (m : List (List ℕ)) (w end word : ℕ) → HasWord m 0 w word → word ≢ 0 → word ≢ 2 ^ 32 - 4
@@ -87,33 +86,14 @@ struct_needs m w end word words charge x c d f has next h lt small pointed = go 
     p_is = tree_count-take_le (children_needed us) us (children_needed_le us) ∙ children_needed-trim k.children
 
     d_few : length front ≤ data_size word
-    d_few = search (rules, data_size, range_length, length-take-le, data_needed, data_needed_le)
+    d_few = search (rules, range_length, length-take-le, data_needed_le)
 
     p_few : tree_count first ≤ pointer_size word
     p_few = omega (arith, p_is, row_needed m 0 (end + data_size word) (pointer_size word) k.children k.inner k.deep k.below)
 
     go : (((length front + tree_count first == 0) ≡ true) × (length front + tree_count first ≡ 0)) ⊎
         (((length front + tree_count first == 0) ≡ false) × (length front + tree_count first ≡ 0 → ⊥)) → StructNeeds m end word (trim x)
-    go (inl y) =
-        let none : word ≡ 2 ^ 32 - 4 = e ∙ rw y.0 refl in
-        let far : middle word ≡ middle (2 ^ 32 - 4) = ap middle none in
-        absurd (omega (arith, far, next, small))
-    go (inr y) =
-        let same : word ≡ struct_word (end - w - 1) (length front) (tree_count first) = e ∙ rw y.0 refl in
-        let fields : StructFields (struct_word (end - w - 1) (length front) (tree_count first)) (end - w - 1) (length front) (tree_count first) =
-        struct_fields (end - w - 1) (length front) (tree_count first) (omega (arith, small)) (omega (arith, d_few)) (omega (arith, p_few)) in record {
-          data_words = ap data_size same ∙ (fields.data_words ∙ d_is);
-          children = k.children;
-          charge = k.inner;
-          depth = k.deep;
-          denote = k.below;
-          pointers = ap pointer_size same ∙ (fields.pointers ∙ p_is);
-          front = front;
-          first = first;
-          tree = ap trim k.tree;
-          data_left = ap data_size same ∙ fields.data_words;
-          pointers_left = ap pointer_size same ∙ fields.pointers;
-        }
+    go y = search (rules, struct_fields, d_is, k, p_few, e, front, d_few, p_is, first)
 
 -- So no copy has a struct as it is that needs less, or whose last pointer is far.
 pub no_struct : (m : List (List ℕ)) (w end word words charge : ℕ)
@@ -125,12 +105,7 @@ no_struct m w end word words charge f has next less x c d h lt small pointed own
     k = struct_needs m w end word words charge x c d f has next h lt small pointed
 
     go : NeedsLess m 0 end (data_size word) (pointer_size word) → ⊥
-    go (inl data_less) = data_less k.data_words
-    go (inr (inl row_less)) = row_less k.children k.charge k.depth k.denote k.pointers
-    go (inr (inr (some, (far, here, e)))) =
-        let rest = subst (λ (u : Tree). Laid (segment_of m 0) (end + own_size u) (below end u ++ due)) k.tree laid in
-        row_near m (end + own_size (struct k.front k.first)) (end + length k.front) k.first due far rest (omega (arith, some, k.pointers_left))
-        (subst (λ i. HasWord m 0 i far) (omega (arith, k.data_left, k.pointers_left)) here) e
+    go e = search (rules, row_near, k)
 
 -- What a list of structs needs that a copy has as it is.
 record StructsNeed (m : List (List ℕ)) (end n d p : ℕ) (u : Tree) : Type 0 where
@@ -186,14 +161,12 @@ no_structs m w end word tag words charge size n d p f less x c deep h lt small p
     go (inl data_less) = data_less k.data_words
     go (inr (inl fewer)) = fewer k.elements k.charge k.depth k.are k.pointers
     go (inr (inr (some, i, few, (far, here, e)))) =
-        let rest = subst (λ (u : Tree). Laid (segment_of m 0) (end + own_size u) (below end u ++ due)) k.tree laid in
         let at : end + 1 + (d + (p - 1)) + i * (d + p) ≡ end + 1 + i * (d + p) + d + (p - 1) = omega arith in
-        elements_near m (end + own_size (structs d p k.cut)) (end + 1) d p i k.cut due far k.fits.4 rest (omega (arith, few, k.count)) some
-        (subst (λ j. HasWord m 0 j far) at here) e
+        search (rules, elements_near, k)
 
 -- nor one that has surplus words
 pub no_surplus : (m : List (List ℕ)) (w end word tag words charge size n d p : ℕ)
     → FindsObject m 0 w 0 0 end word tag words charge (shape.Structs size n d p) → HasWord m 0 w word → n * (d + p) ≢ list_size word → NoCopyHas m w end
 no_surplus m w end word tag words charge size n d p f has surplus x c deep h lt small pointed own due laid =
     let k = structs_need m w end word tag words charge size n d p x c deep f h own in
-    search (rules, pointed_word, trim, pointer_to, list_fields, tree_count, list_size)
+    search (rules, pointed_word, list_fields)

@@ -1,8 +1,7 @@
 -- A struct without words, and a list without bits, that are as a copy has them.
-use Rattle.cap_spec.proofs.ProofNames.{rules}
 use Rattle.cap_spec.proofs.Canonical.PointerFields.{start_before}
 use Rattle.cap_spec.proofs.Lemmas.{extent_scalars, HasWord-segment}
-use Rattle.cap_spec.proofs.ProofNames.{List, arith, refl, subst, sym, ℕ, ◌+◌, ◌-◌, ◌<◌, ◌^◌, ◌∙◌, ◌≡◌, list_word}
+use Rattle.cap_spec.proofs.ProofNames.{rules, List, arith, refl, subst, sym, ℕ, ◌+◌, ◌-◌, ◌<◌, ◌^◌, ◌∙◌, ◌≡◌, list_word}
 use Rattle.cap_spec.proofs.ProofNames.{Finds, extra, near, HasWord, code, extent, kind, list_size, middle}
 use Rattle.cap_ptr.specs.Shapes.{FindsObject}
 use Rattle.cap_ptr.proofs.Objects.{found-plain}
@@ -21,7 +20,7 @@ no_words_next m w end s has =
       leads = near (2 ^ 32 - 4) has (λ e. omega (arith, e)) (omega arith, (λ e. omega (arith, e)), refl, start_before w, refl) refl;
       inside = record { exists = HasWord-segment m 0 w (2 ^ 32 - 4) has; inside = omega (arith, s.after, s.inside); composite = λ c. absurd (omega (arith, c.0)) };
     } in
-    let f : FindsObject m 0 w 0 0 w (2 ^ 32 - 4) 0 0 0 (shape.Struct 0 0) = search (rules, kind) in
+    let f : FindsObject m 0 w 0 0 w (2 ^ 32 - 4) 0 0 0 (shape.Struct 0 0) = search rules in
     let none = range_needed m 0 w 0 (omega (arith, s.after, s.inside)) in
     let own = struct_own m w end 0 0 w (2 ^ 32 - 4) 0 0 0 0 0 s f has (omega (arith, none)) (λ ts c d h. row_empty m 0 (w + 0) ts c d refl h) in
     let e : end + 0 ≡ end = omega arith in record {
@@ -53,7 +52,7 @@ no_bits_next m w end word s has small list c next =
     (omega arith) plain (sym words) (omega arith) (omega (arith, s.inside)) (sym costs) (omega arith) refl
     (record { kind = list; code = sym c; scalar = omega arith; count = refl }) in
     let offset : middle word ≡ end - w - 1 = omega (arith, next) in
-    let same : word ≡ list_word (end - w - 1) 0 n = search (rules, list_by_fields, list_word, code, list_size) in
+    let same : word ≡ list_word (end - w - 1) 0 n = search (rules, list_by_fields) in
     let lie = values_full m 0 end 0 n 0 (omega arith) (omega arith) (omega (arith, s.inside)) (λ k lt. absurd (omega (arith, lt))) (omega arith) in
     let own = values_own m w end 0 0 end word 0 0 (0 + 0 + n) 0 n s f (subst (λ z. HasWord m 0 w z) same has) lie in
     let e : end + 0 ≡ end = omega arith in record {

@@ -1,9 +1,9 @@
 -- The words and the text of a copy at the start of a buffer.
 use Rattle.cap_spec.specs.declared.CanonFault.TheVariants.{HasCapability, Memory}
 use Rattle.cap_spec.proofs.Lemmas.{all_take, length_plain}
-use Rattle.cap_spec.proofs.ProofNames.{Err, List, Ok, [], ap, arith, length, length-take-le, take, take_all, ℕ, ◌*◌}
-use Rattle.cap_spec.proofs.ProofNames.{◌<◌, ◌∙◌, ◌≡◌, ◌≤◌, ◌⊎◌, AllByRecursion, layout, trim, HasCopy, Denotes}
-use Rattle.cap_spec.proofs.ProofNames.{IsFirstCap, plain_text, plain_words, rules}
+use Rattle.cap_spec.proofs.ProofNames.{Err, List, Ok, [], ap, arith, length, take, take_all, ℕ, ◌*◌, ◌<◌, ◌∙◌, ◌≡◌, ◌≤◌}
+use Rattle.cap_spec.proofs.ProofNames.{◌⊎◌, AllByRecursion, layout, trim, HasCopy, Denotes, IsFirstCap, plain_text}
+use Rattle.cap_spec.proofs.ProofNames.{plain_words, rules}
 use Rattle.cap_words.proofs.WholeWords.{words_text}
 use Rattle.cap_canon.specs.CopyOvers.{MakesEnough, ReportsOver, enough, grown, has_capability, made, no_copy, no_memory}
 use Rattle.cap_canon.specs.CopyOvers.{over, refused}
@@ -17,9 +17,8 @@ pub first_text : (words bytes : List ℕ) → AllByRecursion (λ b. b < 256) byt
 first_text words bytes small h e =
     let n = length words in
     let front = take (8 * n) bytes in
-    let long : length front ≡ 8 * n = length-take-le (8 * n) bytes h in
     let whole : front ≡ plain_text (plain_words front) = search (rules, words_text, all_take) in
-    whole ∙ ap plain_text (first_taken n bytes h ∙ e)
+    whole ∙ ap plain_text (first_taken _ _ h ∙ e)
 
 -- a buffer that wasn't made long enough
 pub reports_err : (m : List (List ℕ)) (old new : List ℕ) (fault : CanonFault) → MakesEnough m old (Err fault) new → ReportsOver m old (Err fault) new
@@ -65,18 +64,14 @@ module _ (m : List (List ℕ)) (old mid new : List ℕ) (n : ℕ) (same : length
 
   pub copy_ok : MakesEnough m old (Ok tt) mid → HasCopy m (plain_words (take (8 * n) new))
   copy_ok e =
-      let x = enough_of m old mid e in search (rules, copy_of, plain_words, first_taken, within_ok)
+      let x = enough_of m old mid e in search (rules, copy_of, first_taken, within_ok)
 
   -- the buffer is as long as before if the copy fits, and else as long as the copy
   pub grows : MakesEnough m old (Ok tt) mid → (8 * n ≤ length old → length mid ≡ length old) × (length old < 8 * n → length mid ≡ 8 * n)
   grows (no_copy s w f e g) = absurd (cc)
   grows (refused words h l e g) = absurd (cc)
-  grows (enough words h l e g) =
-      let x = text_of words h in
-      (λ _. ap length g, λ lt. absurd (omega (arith, lt, l, length_plain words, x.0)))
-  grows (made words h l e g) =
-      let x = text_of words h in
-      (λ le. absurd (omega (arith, le, l, length_plain words, x.0)), λ _. omega (arith, g, length_plain words, x.0))
+  grows (enough words h l e g) = search (rules, text_of words h, length_plain words)
+  grows (made words h l e g) = search (rules, text_of words h, length_plain words)
 
 -- all of a new vector is the copy
 pub new_text : (m : List (List ℕ)) (count : ℕ) (new : List ℕ) → ReportsOver m [] (Ok count) new

@@ -1,9 +1,8 @@
 -- What the runs of a walk owe, word by word.
-use Rattle.cap_spec.proofs.ProofNames.{common_steps}
 use Rattle.cap_spec.proofs.Lemmas.{reverse-more, HasWord-inside, HasWord-segment, lead_word, Formed, formed}
-use Rattle.cap_spec.proofs.ProofNames.{List, Option, [], ap, arith, length, length-append, option_to_list}
-use Rattle.cap_spec.proofs.ProofNames.{refl, reverse, subst, suc, ℕ, ◌++◌, ◌+◌, ◌<◌, ◌^◌, ◌∙◌, ◌∷◌, ◌≡◌, ◌≤◌}
-use Rattle.cap_spec.proofs.ProofNames.{length-reverse, reverse-append, Denotes, IsMessage, segment_of, Tree, rules}
+use Rattle.cap_spec.proofs.ProofNames.{common_steps, List, Option, [], ap, arith, length, length-append, option_to_list}
+use Rattle.cap_spec.proofs.ProofNames.{reverse, subst, suc, ℕ, ◌++◌, ◌+◌, ◌<◌, ◌^◌, ◌∙◌, ◌∷◌, ◌≡◌, ◌≤◌, length-reverse}
+use Rattle.cap_spec.proofs.ProofNames.{reverse-append, Denotes, IsMessage, Tree, rules}
 use Rattle.cap_canon.specs.Laying.{size_due}
 use Rattle.cap_canon.specs.CanonNames.{AreShort, IsFull, IsRest, OptionFull, first_place, option_places}
 use Rattle.cap_canon.specs.CanonNames.{places_of, AreBefore, Due, AreOwed, IsNext, IsWalking, Stacked, longest_copy}
@@ -14,21 +13,18 @@ use Rattle.cap_canon.proofs.Runs.{count_more}
 -- a word that denotes is a number of 32 bits
 pub word_short : (m : List (List ℕ)) (s w : ℕ) (t : Tree) (c d : ℕ) → IsMessage m → Denotes m s w t c d → w < 2 ^ 32
 word_short m s w t c d is h =
-    let f : Formed m s w t = formed m s w t c d h in search (rules, lead_word, segment_of, HasWord-segment, HasWord-inside)
+    let f : Formed m s w t = formed m s w t c d h in search (rules, lead_word, HasWord-segment, HasWord-inside)
 
 -- the words that are owed are
 pub owed_short : (m : List (List ℕ)) (depth n end : ℕ) (places : List PointerPlace) (due : List Due) → IsMessage m → end ≤ longest_copy → AreBefore end due
     → AreOwed m depth n places due → AreShort places
-owed_short m depth n end [] due is le b h = tt
-owed_short m depth n end (p ∷ places) [] is le b h = absurd h
 owed_short m depth n end (p ∷ places) (x ∷ due) is le b h = search (rules, word_short, owed_short m depth n end places due is le b.1 h.2)
+owed_short m depth n end p due is le b h = search rules
 
 -- as many words as trees
 pub owed_count : (m : List (List ℕ)) (depth n : ℕ) (places : List PointerPlace) (due : List Due) → AreOwed m depth n places due → length places ≡ length due
-owed_count m depth n [] [] h = refl
-owed_count m depth n [] (x ∷ due) h = absurd h
-owed_count m depth n (p ∷ places) [] h = absurd h
 owed_count m depth n (p ∷ places) (x ∷ due) h = ap suc (owed_count m depth n places due h.2)
+owed_count m depth n p due h = search rules
 
 -- the parts of what is before an end
 before_parts : (end : ℕ) (xs ys : List Due) → AreBefore end (xs ++ ys) → AreBefore end xs × AreBefore end ys
@@ -97,11 +93,10 @@ first_owed m depth n end f r runs (x ∷ own) rest e is_rest is h s b small =
 pub next_of : (m : List (List ℕ)) (depth end : ℕ) (runs : List CopyRun) (f : CopyRun) (r : Option CopyRun) (due : List Due)
     → IsWalking m depth (runs ++ f ∷ []) end due → IsRest f r → Takes m depth (first_place f) (runs ++ option_to_list r) end due
 next_of m depth end runs f r due w is_rest =
-    let k = topmost m depth end runs f due w in
+    let k = topmost _ _ _ _ _ _ w in
     let owed : AreOwed m depth (length (reverse runs) + 1) (first_place f ∷ option_places r) k.own = search rules in
-    let n = first_owed m depth (length (reverse runs) + 1) end f r runs k.own k.rest (omega (arith, length-reverse runs)) is_rest w.message owed k.stacked
-    (subst (AreBefore end) k.all w.before)
-    (subst (λ ds. end + size_due ds ≤ longest_copy) k.all w.small) in
+    let n = first_owed _ _ _ _ _ _ _ _ _ (omega (arith, length-reverse runs)) is_rest w.message owed k.stacked
+    (subst (AreBefore end) k.all w.before) (subst (λ ds. end + size_due ds ≤ longest_copy) k.all w.small) in
     (n.0, n.1, k.all ∙ n.2, n.3)
 
 -- one word fewer is left

@@ -1,9 +1,8 @@
 -- The words of ranges and of lists of values, as a copy appends them.
-use Rattle.cap_spec.proofs.ProofNames.{common_steps}
 use Rattle.cap_spec.proofs.Lemmas.{rest_at, HasWord-at, range_length, length-scalar_words}
-use Rattle.cap_spec.proofs.ProofNames.{List, [], ap, arith, drop, drop-drop, get_or, get_or-drop, get_or-take}
-use Rattle.cap_spec.proofs.ProofNames.{length, length-append, refl, subst, suc, sym, take, take-add, zero, ℕ}
-use Rattle.cap_spec.proofs.ProofNames.{◌*◌, ◌++◌, ◌+◌, ◌-◌, ◌<◌, ◌∙◌, ◌∷◌, ◌≡◌, ◌≤◌, ◌⊎◌, get_or-append_right}
+use Rattle.cap_spec.proofs.ProofNames.{common_steps, List, [], ap, arith, drop, drop-drop, get_or, get_or-drop}
+use Rattle.cap_spec.proofs.ProofNames.{get_or-take, length, length-append, refl, subst, suc, sym, take, take-add, zero}
+use Rattle.cap_spec.proofs.ProofNames.{ℕ, ◌*◌, ◌++◌, ◌+◌, ◌-◌, ◌<◌, ◌∙◌, ◌∷◌, ◌≡◌, ◌≤◌, ◌⊎◌, get_or-append_right}
 use Rattle.cap_spec.proofs.ProofNames.{get_or_append_left, get_or_default, same_lists, length-map-range_with_len}
 use Rattle.cap_spec.proofs.ProofNames.{get_or_from_slice_get, AllByRecursion, value_at, values_of, words_from, HasWord}
 use Rattle.cap_spec.proofs.ProofNames.{segment_of, HasWordsAt, element_bits, list_words, scalar_words, IsWord, field}
@@ -25,7 +24,7 @@ pub elements_whole : (m : List (List ℕ)) (t b ds ps n : ℕ) → words_from m 
 elements_whole m t b ds ps zero = let e : b + 0 * (ds + ps) - b ≡ 0 = omega arith in ap (λ k. take k (drop b (segment_of m t))) e
 elements_whole m t b ds ps (suc n) =
     let e : suc n * (ds + ps) ≡ ds + ps + n * (ds + ps) = omega arith in
-    search (rules, words_from, words_split, elements_whole m t (b + ds + ps) ds ps n)
+    search (rules, words_split, elements_whole m t (b + ds + ps) ds ps n)
 
 -- one word more of a range
 pub range_more : (m : List (List ℕ)) (t b n x : ℕ) → HasWord m t (b + n) x → words_from m t b (n + 1) ≡ words_from m t b n ++ x ∷ []
@@ -53,7 +52,7 @@ pub range_lies : (m : List (List ℕ)) (t b n : ℕ) → b + n ≤ length (segme
 range_lies m t b zero h = let e : b + 0 - b ≡ 0 = omega arith in rw e (omega (arith, h))
 range_lies m t b (suc n) h =
     let x = HasWord-at m t b (omega (arith, h)) in
-    search (rules, segment_of, words_from, range_is, rest_at, range_lies m t (b + 1) n (omega (arith, h)))
+    search (rules, range_is, rest_at, range_lies m t (b + 1) n (omega (arith, h)))
 
 -- elements have the words that are left of each
 pub length-elements_from : (m : List (List ℕ)) (t b ds ps d p n : ℕ) → d ≤ ds → p ≤ ps → b + n * (ds + ps) ≤ length (segment_of m t)
@@ -61,7 +60,7 @@ pub length-elements_from : (m : List (List ℕ)) (t b ds ps d p n : ℕ) → d �
 length-elements_from m t b ds ps d p zero hd hp h = omega arith
 length-elements_from m t b ds ps d p (suc n) hd hp h =
     let e : suc n * (ds + ps) ≡ ds + ps + n * (ds + ps) = omega arith in
-    search (rules, words_from, range_length, length-append, length-elements_from m t (b + ds + ps) ds ps d p n hd hp (omega (arith, h, e)))
+    search (rules, range_length, length-append, length-elements_from m t (b + ds + ps) ds ps d p n hd hp (omega (arith, h, e)))
 
 -- a word of a range
 pub range_word : (m : List (List ℕ)) (t b n k : ℕ) → k < n → get_or (words_from m t b n) k 0 ≡ get_or (segment_of m t) (b + k) 0
@@ -105,15 +104,12 @@ values_laid m t b c n before x lt e inside words last = same_lists (scalar_words
     read k h = values_read (segment_of m t) b c n k lt (omega (arith, h, e))
 
     early : (k : ℕ) → k < before → get_or (scalar_words c vs) k 0 ≡ get_or (front ++ end) k 0
-    early k h = search (rules, front, segment_of, range_word, all_at, many, read, field, used_all, whole_field, get_or_append_left, end)
+    early k h = search (rules, front, range_word, all_at, many, read, used_all, whole_field, get_or_append_left, end)
 
     late : (k : ℕ) → k ≡ before → get_or (scalar_words c vs) k 0 ≡ get_or (front ++ end) k 0
     late k h =
         let w : get_or (segment_of m t) (b + before) 0 ≡ x = get_or_from_slice_get (segment_of m t) (b + before) x 0 last in
-        let z : k - before ≡ 0 = omega (arith, h) in
-        ap (λ i. get_or (scalar_words c vs) i 0) h
-        ∙ (read before (omega arith) ∙ (ap (λ y. field y 0 (used_bits c n before)) w
-        ∙ sym (get_or-append_right front end before k 0 many (omega (arith, h)) ∙ ap (λ i. get_or end i 0) z)))
+        let z : k - before ≡ 0 = omega (arith, h) in search (rules, get_or-append_right, end, front, many, read, vs)
 
     cases : (k : ℕ) → k < before + 1 → (k < before) ⊎ (k ≡ before)
     cases k h = search arith

@@ -1,22 +1,17 @@
 -- How many bits of its last word a list of values takes, and lists that take all of them.
-use Rattle.cap_spec.proofs.ProofNames.{List, ap, arith, length, suc, sym, zero, ℕ, ◌%◌, ◌*◌, ◌+◌, ◌<◌, ◌∙◌, ◌≡◌}
-use Rattle.cap_spec.proofs.ProofNames.{◌≢◌, ◌≤◌, nil_from_length, length-map-range_with_len, value_at, values_of}
-use Rattle.cap_spec.proofs.ProofNames.{HasWord, segment_of, HasWordsAt, element_bits, list_words, scalar_words, IsWord}
-use Rattle.cap_spec.proofs.ProofNames.{field, rules}
+use Rattle.cap_spec.proofs.ProofNames.{List, ap, arith, length, suc, sym, zero, ℕ, ◌%◌, ◌*◌, ◌+◌, ◌<◌, ◌∙◌, ◌≡◌, ◌≢◌}
+use Rattle.cap_spec.proofs.ProofNames.{◌≤◌, nil_from_length, length-map-range_with_len, values_of, HasWord, segment_of}
+use Rattle.cap_spec.proofs.ProofNames.{HasWordsAt, element_bits, list_words, scalar_words, IsWord, field, rules}
 use Rattle.cap_spec.proofs.Trees.ReadingBack.{length-scalar_words}
 use Rattle.cap_canon.specs.Values.{used_bits}
 use Rattle.cap_canon.proofs.Ranges.{whole_field}
 use Rattle.cap_canon.proofs.LaidObjects.{range_words, values_lie}
 
--- where no bits are over, the values take all of the last word,
+-- Where no bits are over, the values take all of the last word,
 pub rest_all : (c n before : ℕ) → c < 6 → list_words c n ≡ before + 1 → (element_bits c * n) % 64 ≡ 0 → used_bits c n before ≡ 64
 rest_all h n before lt w e = search rules
 
--- else as many of it as are over,
-pub rest_part : (c n before : ℕ) → c < 6 → list_words c n ≡ before + 1 → (element_bits c * n) % 64 ≢ 0 → used_bits c n before ≡ (element_bits c * n) % 64
-rest_part h n before lt w e = search rules
-
--- and the list has words.
+-- else the list has words.
 pub rest_words : (c n : ℕ) → c < 6 → (element_bits c * n) % 64 ≢ 0 → 0 < list_words c n
 rest_words h n lt e = search rules
 
@@ -25,7 +20,7 @@ pub values_full : (m : List (List ℕ)) (t b c n words : ℕ) → c < 6 → word
     → ((k : ℕ) → k < words → (x : ℕ) × HasWord m t (b + k) x × IsWord x) → (element_bits c * n) % 64 ≡ 0
     → HasWordsAt (segment_of m t) b (scalar_words c (values_of m t b c n))
 values_full m t b c n zero lt e inside h rest =
-    search (rules, values_of, length-map-range_with_len, value_at, segment_of, element_bits, scalar_words, length-scalar_words, list_words, nil_from_length)
+    search (rules, length-map-range_with_len, length-scalar_words, nil_from_length)
 values_full m t b c n (suc before) lt e inside h rest =
     let some : list_words c n ≡ before + 1 = omega (arith, e) in
     let last = h before (omega arith) in

@@ -54,9 +54,8 @@ root_rest (Some f) h =
 
 -- the second word of a row is one of 32 bits
 pub second_short : (s b a n : ℕ) (others : List PointerPlace) → 1 < n → AreShort (row_places s b a n ++ others) → IsShort (place s (b + 1) (a + 1))
-second_short s b a zero others h k = absurd (omega arith)
-second_short s b a (suc zero) others h k = absurd (omega arith)
 second_short s b a (suc (suc n)) others h k = k.1.0
+second_short s b a n others h k = search rules
 
 -- and so is the first of the next element
 first_short : (s b a p : ℕ) (others : List PointerPlace) → 0 < p → AreShort (row_places s b a p ++ others) → IsShort (place s b a)

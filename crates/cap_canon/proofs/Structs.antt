@@ -25,7 +25,7 @@ pub structs_more : (m : List (List ℕ)) (x : Part) (b count i : ℕ) (old now n
 structs_more m x b count i old now next space more lt fewer h e g k = record {
   place = omega (arith, k.place);
   rest = start ∙ (ap (λ n. now ++ elements b n) (sym n) ∙ k.rest);
-  capacity = omega (arith, r, f, front, row, l, g);
+  capacity = omega (arith, r, f, front, range_length, l, g);
 }
   where
     elements : ℕ → ℕ → List ℕ
@@ -55,8 +55,5 @@ structs_more m x b count i old now next space more lt fewer h e g k = record {
     front : length (words_from m x.segment b x.data_left) ≡ x.data_left
     front = range_length m x.segment b x.data_left (omega (arith, fewer, h))
 
-    row : length (words_from m x.segment (b + x.data_words) x.pointers_left) ≡ x.pointers_left
-    row = range_length m x.segment (b + x.data_words) x.pointers_left (omega (arith, fewer, h))
-
     l : length next ≡ length now + (length (words_from m x.segment b x.data_left) + length (words_from m x.segment (b + x.data_words) x.pointers_left))
-    l = search (rules, length-append, own, words_from)
+    l = search (rules, length-append, own)

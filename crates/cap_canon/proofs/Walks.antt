@@ -1,13 +1,11 @@
 -- A walk over an accepted message, from turn to turn.
-use Rattle.cap_spec.proofs.ProofNames.{common_steps}
 use Rattle.cap_spec.proofs.Canonical.Sizes.{trimmed_size_charged}
 use Rattle.cap_spec.proofs.Canonical.TreeMeasures.{measured}
 use Rattle.cap_spec.proofs.Canonical.TrimmedMeasures.{trimmed}
-use Rattle.cap_spec.proofs.Lemmas.{lie_inside, length-content, Fits, HasWord-inside, lead_word, formed}
-use Rattle.cap_spec.proofs.Lemmas.{one_tree}
-use Rattle.cap_spec.proofs.ProofNames.{List, Option, [], arith, length, option_to_list, refl, subst, sym, ℕ, ◌++◌, ◌+◌}
-use Rattle.cap_spec.proofs.ProofNames.{◌-◌, ◌<◌, ◌∷◌, ◌≡◌, ◌≤◌, content, layout, trim, Denotes, IsMessage, segment_of}
-use Rattle.cap_spec.proofs.ProofNames.{Tree, rules}
+use Rattle.cap_spec.proofs.Lemmas.{lie_inside, length-content, Fits, HasWord-inside, lead_word, formed, one_tree}
+use Rattle.cap_spec.proofs.ProofNames.{common_steps, List, Option, [], arith, length, option_to_list, refl, subst, sym}
+use Rattle.cap_spec.proofs.ProofNames.{ℕ, ◌++◌, ◌+◌, ◌-◌, ◌<◌, ◌∷◌, ◌≡◌, ◌≤◌, layout, trim, Denotes, IsMessage}
+use Rattle.cap_spec.proofs.ProofNames.{segment_of, Tree, rules}
 use Rattle.cap_canon.specs.CopyTurns.{IsTurn}
 use Rattle.cap_canon.specs.CanonNames.{AreShort, IsFull, IsRest, first_place, place, places_of, root_run, Due, Laid}
 use Rattle.cap_canon.specs.CanonNames.{below, own_size, IsObject, HasTree, IsNext, IsWalking, NextLeadsTo, Object}
@@ -46,16 +44,9 @@ pub record AtTurn (m : List (List ℕ)) (state : List (List ℕ) → Tree → �
 -- at the root
 first_turn : (m : List (List ℕ)) (state : List (List ℕ) → Tree → ℕ → List Due → Type 0) (depth : ℕ) → IsMessage m → (k : HasTree m depth)
     → state m (trim k.tree) 1 (record { slot = 0; tree = trim k.tree } ∷ []) → AtTurn m state depth [] (place 0 0 0) 1
-first_turn m state depth is k so_far = record {
-  root = k.tree;
-  charge = k.charge;
-  denotes = k.denotes;
-  tree = trim k.tree;
-  due = [];
-  next = search (rules, trimmed_size_charged);
-  laid = (layout_laid (layout (trim k.tree)) (trim k.tree) (root_fits m k.tree k.charge depth k.denotes)).0 refl;
-  so_far = so_far;
-}
+first_turn m state depth is k so_far =
+    search (rules, trimmed_size_charged,
+        layout_laid (layout (trim k.tree)) (trim k.tree) (root_fits m k.tree k.charge depth k.denotes))
 
 -- the object there
 this_met : (m : List (List ℕ)) (state : List (List ℕ) → Tree → ℕ → List Due → Type 0) (depth : ℕ)
@@ -74,7 +65,7 @@ this_turn : (m : List (List ℕ)) (state : List (List ℕ) → Tree → ℕ → 
 this_turn m state depth runs p end object k met =
     let fits = owed_fits m depth (length runs) p.segment p.word k.tree k.next.owed in
     let parts = (object_laid (layout (trim k.root)) end p.slot k.tree k.due fits).0 k.laid in
-    search (rules, content, layout, trim, lie_inside, length-content, size_below)
+    search (rules, lie_inside, length-content, size_below)
 
 -- what is due after it
 turn_laid : (m : List (List ℕ)) (state : List (List ℕ) → Tree → ℕ → List Due → Type 0) (depth : ℕ) (runs : List CopyRun)
@@ -90,16 +81,8 @@ next_turn : (m : List (List ℕ)) (before state : List (List ℕ) → Tree → �
     (p q : PointerPlace) (end now : ℕ)
     → (k : AtTurn m before depth runs p end) → now ≡ end + own_size k.tree → Takes m depth q rest now (below end k.tree ++ k.due)
     → state m (trim k.root) (end + own_size k.tree) (below end k.tree ++ k.due) → AtTurn m state depth rest q now
-next_turn m before state depth runs rest p q end now k e taken so_far = record {
-  root = k.root;
-  charge = k.charge;
-  denotes = k.denotes;
-  tree = taken.0;
-  due = taken.1;
-  next = taken.3;
-  laid = subst (λ due. Laid (layout (trim k.root)) now due) taken.2 (turn_laid m before depth runs p end now k e);
-  so_far = subst (λ due. state m (trim k.root) now due) taken.2 (subst (λ n. state m (trim k.root) n (below end k.tree ++ k.due)) (sym e) so_far);
-}
+next_turn m before state depth runs rest p q end now k e taken so_far =
+    search (rules, turn_laid m before depth runs p end now k e)
 
 -- no word is left
 pub last_turn : (m : List (List ℕ)) (before state : List (List ℕ) → Tree → ℕ → List Due → Type 0) (depth : ℕ) (runs : List CopyRun)
@@ -108,9 +91,8 @@ pub last_turn : (m : List (List ℕ)) (before state : List (List ℕ) → Tree �
     → state m (trim k.root) (end + own_size k.tree) (below end k.tree ++ k.due) → (t : Tree) (c d : ℕ) → Denotes m 0 0 t c d
     → (now ≡ length (layout (trim t))) × state m (trim t) now []
 last_turn m before state depth runs p end now k e w so_far t c d h =
-    let same = one_tree m 0 0 k.root t k.charge depth c d k.denotes h in
-    let long : now ≡ length (layout (trim k.root)) = subst (λ due. Laid (layout (trim k.root)) now due) w.stacked
-    (turn_laid m before depth runs p end now k e) in search (rules, trim, layout)
+    search (rules, one_tree m 0 0 k.root t k.charge depth c d k.denotes h,
+        turn_laid m before depth runs p end now k e)
 
 -- A walk at the first word of a run, with other runs on the stack.
 pub record AtRun (m : List (List ℕ)) (state : List (List ℕ) → Tree → ℕ → List Due → Type 0) (depth : ℕ) (runs : List CopyRun)

@@ -1,6 +1,5 @@
 -- Objects that need all their words, or less, where their pointers needn't be followed.
 use Rattle.cap_spec.specs.Denoting.{places}
-use Rattle.cap_spec.specs.Tree.{none}
 use Rattle.cap_spec.proofs.Frames.Messages.{one_word}
 use Rattle.cap_spec.proofs.ProofNames.{List, ap, arith, false, length, max, refl, subst, suc, sym, true, zero, ℕ, ◌*◌}
 use Rattle.cap_spec.proofs.ProofNames.{◌+◌, ◌-◌, ◌<◌, ◌≡◌, ◌≢◌, ◌≤◌, mul-le, children_needed, children_of, data_needed}
@@ -40,7 +39,6 @@ elements_empty m t b ds {ps} n es c d e h = omega (arith, e, children_within m t
 pub elements_whole : (m : List (List ℕ)) (t b ds ps n i : ℕ) (es : Trees) (c d : ℕ) → 0 < ps → i < n
     → ((u : Tree) (c' d' : ℕ) → Denotes m t (b + i * (ds + ps) + ds + (ps - 1)) u c' d' → is_null u ≡ false)
     → AreElements m t b ds ps n es c d → ps ≡ children_of es
-elements_whole m t b ds ps n i none c d some lt last h = absurd (omega (arith, lt, h.0))
 elements_whole m t b ds ps n zero (more (struct ws ts) es) c d some lt last h =
     let k = element_parts m t b ds ps n ws ts es c d h in
     let e : b + 0 * (ds + ps) + ds + (ps - 1) ≡ b + ds + (ps - 1) = omega arith in search (rules, row_whole, children_within)
@@ -51,7 +49,7 @@ elements_whole m t b ds ps n (suc i) (more (struct ws ts) es) c d some lt last h
     let rest = elements_whole m t (b + ds + ps) ds ps k.others i es k.c2 k.d2 some (omega (arith, lt, k.many))
     (λ u c' d' g. last u c' d' (subst (λ x. Denotes m t x u c' d') (sym e) g)) k.rest in
     search (rules, row_needed)
-elements_whole m t b ds ps n i (more _ es) c d some lt last h = absurd h
+elements_whole m t b ds ps n i es c d some lt last h = search rules
 
 -- a last data word that isn't zero is needed,
 pub data_last : (m : List (List ℕ)) (t b d x : ℕ) → 0 < d → b + d ≤ length (segment_of m t) → HasWord m t (b + (d - 1)) x → x ≢ 0
@@ -102,7 +100,6 @@ most_short m t b ds ps (suc n) some inside zeros =
 -- the pointers of elements whose last ones are all zero
 pub elements_short : (m : List (List ℕ)) (t b ds ps n : ℕ) (es : Trees) (c d : ℕ) → 0 < ps
     → ((k : ℕ) → k < n → HasWord m t (b + (ds + (ps - 1)) + k * (ds + ps)) 0) → AreElements m t b ds ps n es c d → children_of es ≤ ps - 1
-elements_short m t b ds ps n none c d some zeros h = omega arith
 elements_short m t b ds ps n (more (struct ws ts) es) c d some zeros h =
     let k = element_parts m t b ds ps n ws ts es c d h in
     let e : b + (ds + (ps - 1)) + 0 * (ds + ps) ≡ b + ds + (ps - 1) = omega arith in
@@ -112,7 +109,7 @@ elements_short m t b ds ps n (more (struct ws ts) es) c d some zeros h =
     let e' : b + (ds + (ps - 1)) + suc i * (ds + ps) ≡ b + ds + ps + (ds + (ps - 1)) + i * (ds + ps) = omega (arith, g) in
     subst (λ a. HasWord m t a 0) e' (zeros (suc i) (omega (arith, lt, k.many)))) k.rest in
     search rules
-elements_short m t b ds ps n (more _ es) c d some zeros h = absurd h
+elements_short m t b ds ps n es c d some zeros h = search rules
 
 -- a word of an element is inside the list
 pub element_inside : (b o each k n l : ℕ) → k < n → o < each → b + n * each ≤ l → b + o + k * each < l

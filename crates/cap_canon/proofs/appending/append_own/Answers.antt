@@ -4,34 +4,23 @@ use Rattle.cap_canon.proofs.appending.append_own.Goals as goal
 
 pub append_values-requires-clause-capacity : goal.append_values-requires-clause-capacity
 append_values-requires-clause-capacity g c =
-    let m = g.M.Segments.segments c.args.message.now in
     let k = rw c.in-Scalars.is at c.requires.4 in
-    omega (
-      arith,
-      c.requires.5,
-      scalars_size m c.requires.1 c.requires.2 c.requires.3 k.1,
-    )
+    omega (arith, c.requires.5, scalars_size _ _ _ _ k.1)
 
 pub returns-in-Struct-clause-own : goal.returns-in-Struct-clause-own
 returns-in-Struct-clause-own g c = λ d s w tree h.
-    (let m = g.M.Segments.segments c.args.message.now in
-    let k = rw c.in-Struct.is at h in
-    struct_appended m k.0 s w tree c.in-Struct.part
-    (g.T.CopyOutput.words c.args.copy.now) (g.T.CopyOutput.words c.append_struct.new.copy) k.2 c.append_struct.ensures.words)
+    (let k = rw c.in-Struct.is at h in
+    struct_appended _ _ _ _ _ _ _ _ k.2 c.append_struct.ensures.words)
 
 pub returns-in-Scalars-clause-own : goal.returns-in-Scalars-clause-own
 returns-in-Scalars-clause-own g c = λ d s w tree h.
-    (let m = g.M.Segments.segments c.args.message.now in
-    let k = rw c.in-Scalars.is at h in
-    scalars_appended m s w tree c.in-Scalars.segment c.in-Scalars.start c.in-Scalars.code c.in-Scalars.count c.in-Scalars.words
-    (g.T.CopyOutput.words c.args.copy.now) (g.T.CopyOutput.words c.append_values.new.copy) k.1 c.append_values.ensures.words)
+    (let k = rw c.in-Scalars.is at h in
+    scalars_appended _ _ _ _ _ _ _ _ _ _ _ k.1 c.append_values.ensures.words)
 
 pub returns-in-Pointers-clause-own : goal.returns-in-Pointers-clause-own
 returns-in-Pointers-clause-own g c = λ d s w tree h.
-    (let m = g.M.Segments.segments c.args.message.now in
-    let k = rw c.in-Pointers.is at h in
-    pointers_appended m k.0 s w tree c.in-Pointers.segment c.in-Pointers.start c.in-Pointers.count
-    (g.T.CopyOutput.words c.args.copy.now) (g.T.CopyOutput.words c.append_from.new.self) k.2 c.append_from.ensures.words)
+    (let k = rw c.in-Pointers.is at h in
+    pointers_appended _ _ _ _ _ _ _ _ _ _ k.2 c.append_from.ensures.words)
 
 pub returns-in-Structs-clause-own : goal.returns-in-Structs-clause-own
 returns-in-Structs-clause-own g c = λ d s w tree h.

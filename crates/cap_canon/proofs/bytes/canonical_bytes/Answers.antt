@@ -26,17 +26,15 @@ returns-in-Ok-clause-capacity g c = search (rules, new_text, length_plain)
 
 pub returns-in-Ok-clause-copy : goal.returns-in-Ok-clause-copy
 returns-in-Ok-clause-copy g c = λ words h.
-    let m = g.M.Segments.segments (message_of c.args.v.now) in
     let reports = rw c.new-bytes.ensures.items at c.in-Ok.ensures.reports in
-    let (other, k, text, count) = new_text m _ c.fill_over.new.buffer.items reports in
-    text ∙ ap plain_text (one_copy m other words k h)
+    let (other, k, text, count) = new_text _ _ _ reports in
+    text ∙ ap plain_text (one_copy _ _ _ k h)
 
 pub returns-in-Ok-clause-first_cap : goal.returns-in-Ok-clause-first_cap
 returns-in-Ok-clause-first_cap g c = λ s w f.
-    let m = g.M.Segments.segments (message_of c.args.v.now) in
     let reports = rw c.new-bytes.ensures.items at c.in-Ok.ensures.reports in
-    let (words, h, text, count) = new_text m _ c.fill_over.new.buffer.items reports in
-    absurd (cap_no_copy m s w words f h)
+    let (words, h, text, count) = new_text _ _ _ reports in
+    absurd (cap_no_copy _ _ _ _ f h)
 
 first : (a b s w : ℕ) → HasCapability a b ≡ HasCapability s w → a ≡ s
 first a b s w e = cc
@@ -49,29 +47,26 @@ returns-in-Err-clause-cap g c = search (rules, new_fault, same_fault, second, fi
 
 pub returns-in-Err-clause-memory : goal.returns-in-Err-clause-memory
 returns-in-Err-clause-memory g c = λ e s w f.
-    let m = g.M.Segments.segments (message_of c.args.v.now) in
     let reports = rw c.new-bytes.ensures.items at c.in-Err.ensures.reports in
-    elim (new_fault m _ c.fill_over.new.buffer.items reports) [
+    elim (new_fault _ _ _ reports) [
       | inl (s', w', f', k) ↦ absurd (cc)
-      | inr (words, h, k) ↦ absurd (cap_no_copy m s w words f h)
+      | inr (words, h, k) ↦ absurd (cap_no_copy _ _ _ _ f h)
     ]
 
 pub returns-in-Err-clause-copy : goal.returns-in-Err-clause-copy
 returns-in-Err-clause-copy g c = λ words h.
-    let m = g.M.Segments.segments (message_of c.args.v.now) in
     let reports = rw c.new-bytes.ensures.items at c.in-Err.ensures.reports in
-    elim (new_fault m _ c.fill_over.new.buffer.items reports) [
-      | inl (s', w', f, k) ↦ absurd (cap_no_copy m s' w' words f h)
+    elim (new_fault _ _ _ reports) [
+      | inl (s', w', f, k) ↦ absurd (cap_no_copy _ _ _ _ f h)
       | inr (words', h', k) ↦ k
     ]
 
 pub returns-in-Err-clause-first_cap : goal.returns-in-Err-clause-first_cap
 returns-in-Err-clause-first_cap g c = λ s w f.
-    let m = g.M.Segments.segments (message_of c.args.v.now) in
     let reports = rw c.new-bytes.ensures.items at c.in-Err.ensures.reports in
-    elim (new_fault m _ c.fill_over.new.buffer.items reports) [
+    elim (new_fault _ _ _ reports) [
       | inl (s', w', f', k) ↦
-          let same = one_first_cap m s' w' s w f' f in
+          let same = one_first_cap _ _ _ _ _ f' f in
           ap Err (k ∙ ap₂ (λ x y. HasCapability x y) same.0 same.1)
-      | inr (words, h, k) ↦ absurd (cap_no_copy m s w words f h)
+      | inr (words, h, k) ↦ absurd (cap_no_copy _ _ _ _ f h)
     ]

@@ -17,19 +17,17 @@ copy_into-requires-clause-capacity g c =
 
 pub returns-clause-capacity : goal.returns-clause-capacity
 returns-clause-capacity g c =
-    let m = g.M.Segments.segments (message_of c.args.v.now) in
     let h = c.in-Ok.ensures.ok in
-    let made = copy_of m h.0 c.copy_into.new.copy.items h.1 (rw c.message.ensures.value at c.copy_into.ensures.words) in
-    let e : length h.0 ≡ length c.copy_into.new.copy.items = ap length (one_copy m h.0 c.copy_into.new.copy.items h.1 made) in
+    let made = copy_of _ _ _ h.1 (rw c.message.ensures.value at c.copy_into.ensures.words) in
+    let e : length h.0 ≡ length c.copy_into.new.copy.items = ap length (one_copy _ _ _ h.1 made) in
     omega (arith, e, h.2, c.in-Ok-with_capacity.ensures.exact, c.copy_into.ensures.capacity)
 
 pub returns-clause-accepted : goal.returns-clause-accepted
 returns-clause-accepted g c =
-    let m = g.M.Segments.segments (message_of c.args.v.now) in
     let h = c.in-Ok.ensures.ok in
     let k = c.report.ensures.accepted in
-    let made = copy_of m h.0 c.copy_into.new.copy.items h.1 (rw c.message.ensures.value at c.copy_into.ensures.words) in
-    λ t x d f. copy_denotes m c.copy_into.new.copy.items t x d made f (few_charged m c.report.result k.0 t x d k.1 f)
+    let made = copy_of _ _ _ h.1 (rw c.message.ensures.value at c.copy_into.ensures.words) in
+    λ t x d f. copy_denotes _ _ _ _ _ made f (few_charged _ _ _ _ _ _ k.1 f)
 
 pub returns-clause-own : goal.returns-clause-own
 returns-clause-own g c =
@@ -41,18 +39,16 @@ returns-clause-own g c =
 
 pub returns-clause-near : goal.returns-clause-near
 returns-clause-near g c =
-    let m = g.M.Segments.segments (message_of c.args.v.now) in
     let k = c.report.ensures.accepted in
     let words = rw c.message.ensures.value at c.copy_into.ensures.words in
-    λ t x d f. (words t x d f, offsets_fit m 0 0 t x d f (few_charged m c.report.result k.0 t x d k.1 f))
+    λ t x d f. (words t x d f, offsets_fit _ _ _ _ _ _ f (few_charged _ _ _ _ _ _ k.1 f))
 
 pub returns-clause-only : goal.returns-clause-only
 returns-clause-only g c =
-    let m = g.M.Segments.segments (message_of c.args.v.now) in
     let h = c.in-Ok.ensures.ok in
     let k = c.report.ensures.accepted in
-    let made = copy_of m h.0 c.copy_into.new.copy.items h.1 (rw c.message.ensures.value at c.copy_into.ensures.words) in
-    λ t u x d x' d' other f f' few. copy_only m c.copy_into.new.copy.items t u x d x' d' other made f (few_charged m c.report.result k.0 t x d k.1 f) f' few
+    let made = copy_of _ _ _ h.1 (rw c.message.ensures.value at c.copy_into.ensures.words) in
+    λ t u x d x' d' other f f' few. copy_only _ _ _ _ _ _ _ _ _ made f (few_charged _ _ _ _ _ _ k.1 f) f' few
 
 pub returns-clause-first_cap : goal.returns-clause-first_cap
 returns-clause-first_cap g c =

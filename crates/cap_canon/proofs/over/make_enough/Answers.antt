@@ -1,20 +1,17 @@
 -- Enough for every copy, no copy, enough for this one, and a new buffer.
 use Rattle.cap_spec.proofs.Bytes.Plain.{length_plain}
 use Rattle.cap_spec.proofs.ProofNames.{Err, ap, arith, length, refl, sym, ℕ, ◌*◌, ◌∙◌, ◌≡◌, layout, trim, plain_text}
-use Rattle.cap_vet.specs.Vettings.{message_of}
 use Rattle.cap_canon.specs.CopyOvers.{enough, made, no_copy, refused}
 use Rattle.cap_canon.proofs.Copies.{copy_charged, has_copy}
 use Rattle.cap_canon.proofs.over.make_enough.Goals as goal
 
 pub returns-then-fits_any-clause-makes : goal.returns-then-fits_any-clause-makes
 returns-then-fits_any-clause-makes g c =
-    let m = g.M.Segments.segments (message_of c.args.v.now) in
-    let r = c.report.result in
     let k = c.report.ensures.accepted in
     let words = layout (trim k.0) in
     let fits = c.fits_any.ensures.0 c.if-fits_any.true in
-    let h = has_copy m r k.0 k.1 fits.0 in
-    let few = copy_charged m k.0 r.charge r.depth words k.1.within.denotes h in
+    let h = has_copy _ _ _ k.1 fits.0 in
+    let few = copy_charged _ _ _ _ _ k.1.within.denotes h in
     enough words h (omega (arith, few, length_plain words, fits.1, c.len.ensures)) refl refl
 
 pub returns-in-Err-clause-makes : goal.returns-in-Err-clause-makes

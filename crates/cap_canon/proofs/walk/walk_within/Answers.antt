@@ -1,169 +1,145 @@
-use Rattle.cap_spec.proofs.ProofNames.{List, None, [], ap, arith, length, option_to_list, refl, rules, subst, sym, ◌++◌, ◌+◌, ◌∙◌}
-use Rattle.cap_spec.proofs.ProofNames.{◌∷◌, ◌≡◌, ◌≤◌, trim, IsMessage}
+use Rattle.cap_spec.proofs.ProofNames.{List, None, Option, [], ap, arith, length, option_to_list, refl, rules, subst, sym, ℕ}
+use Rattle.cap_spec.proofs.ProofNames.{◌++◌, ◌+◌, ◌∙◌, ◌∷◌, ◌≡◌, ◌≤◌, trim, Denotes, Tree}
 use Rattle.cap_spec.proofs.Trees.OneTree.{one_tree}
-use Rattle.cap_canon.specs.CanonNames.{first_place, below, own_size, IsWalking, longest_copy, work_left, CopyRun}
+use Rattle.cap_canon.specs.CanonNames.{Due, ForTrimmed, IsObject, Object, OptionFull, PointerPlace, first_place, below, own_size}
+use Rattle.cap_canon.specs.CanonNames.{IsWalking, longest_copy, option_places, work_left, CopyRun}
+use Rattle.cap_canon.specs.Kept.{Kept}
 use Rattle.cap_canon.specs.StillToLay.{AreOwed, runs_left}
 use Rattle.cap_canon.specs.declared.objects.Object.TheVariants as object
 use Rattle.cap_canon.proofs.Entering.{entered, capacity_above, work_more}
 use Rattle.cap_canon.proofs.Lengths.{own_within}
 use Rattle.cap_canon.proofs.Owing.{next_work}
 use Rattle.cap_canon.proofs.Runs.{has_rest}
-use Rattle.cap_canon.proofs.Walks.{first_run, last_turn, next_run, turn_here, work_falls}
+use Rattle.cap_canon.proofs.Walks.{AtRun, TurnHere, first_run, last_turn, next_run, turn_here, work_falls}
 use Rattle.cap_canon.proofs.walk.walk_within.Goals as goal
+
+module _ {m : List (List ℕ)} {state : List (List ℕ) → Tree → ℕ → List Due → Type 0} {depth : ℕ} {runs : List CopyRun} {end : ℕ} where
+  -- the turn at the first word of a run
+  here : {run : CopyRun} (object : Object) (k : AtRun m state depth runs run end)
+      → ((t : Tree) (c d : ℕ) → Denotes m run.segment run.at t c d → IsObject m d run.segment run.at (trim t) object)
+      → TurnHere m state depth (runs ++ option_to_list (has_rest run k.full).0) (first_place run) end object
+  here {run} object k f = let r = has_rest run k.full in turn_here m state depth runs run end object k r.0 r.1 f
+
+  word_here : {run : CopyRun} → AtRun m state depth runs run end → (t : Tree) × (c d : ℕ) × Denotes m run.segment run.at t c d
+  word_here {run} k =
+      let r = has_rest run k.full in
+      let o = (k.turn r.0 r.1).next.owed in (o.0, o.1, o.2, o.3)
+
+  module _ {p : PointerPlace} {object : Object} (h : TurnHere m state depth runs p end object) where
+    within : end + own_size h.at.tree ≤ longest_copy
+    within = own_within end longest_copy h.at.tree h.at.due p.slot h.at.next.small
+
+    -- the runs after it
+    walking : (r : Option CopyRun) (now : ℕ) (after : List CopyRun) → now ≡ end + own_size h.at.tree → OptionFull r
+        → AreOwed m depth (length runs + 1) (option_places r) (below end h.at.tree) → runs ++ option_to_list r ≡ after
+        → IsWalking m depth after now (below end h.at.tree ++ h.at.due)
+    walking r now after e full owed same =
+        subst (λ fs. IsWalking m depth fs now (below end h.at.tree ++ h.at.due)) same
+        (entered m depth end now p h.at.tree h.at.due runs r object h.met e full owed)
+
+    kept_on : (new old first : Tree → Kept) → new (trim h.at.root) ≡ old (trim h.at.root) → ForTrimmed m (λ u. old u ≡ first u)
+        → ForTrimmed m (λ u. new u ≡ first u)
+    kept_on new old first e k t x d n =
+        subst (λ u. new (trim u) ≡ old (trim u)) (one_tree m 0 0 h.at.root t h.at.charge depth x d h.at.denotes n).part e ∙ k t x d n
 
 pub walk-init : goal.walk-init
 walk-init g c =
-    let m = g.M.Segments.segments c.args.message.now in
-    let is : IsMessage m = search rules in
     let h = c.requires.tree in
-    let state = g.P.Pass.state c.args.pass.now in
-    let at = first_run m state c.args.depth is h (c.requires.start h.tree h.charge c.args.depth h.denotes) in
+    let so_far = c.requires.start h.tree h.charge c.args.depth h.denotes in
+    let at = first_run _ (g.P.Pass.state c.args.pass.now) c.args.depth (search rules) h so_far in
     record { at = rw (c.new-stack.ensures, c.root-run.ensures) at; kept = λ t x d h. refl }
 
 pub object_at-object-requires : goal.object_at-object-requires
-object_at-object-requires g c =
-    let at = c.walk.invariant.at in
-    let r = has_rest c.walk.run at.full in
-    let o = (at.turn r.0 r.1).next.owed in
-    (o.0, o.1, o.2, o.3)
+object_at-object-requires g c = word_here c.walk.invariant.at
 
 pub leads_to_null-requires : goal.leads_to_null-requires
-leads_to_null-requires g c =
-    let at = c.walk.invariant.at in
-    let r = has_rest c.walk.run at.full in
-    let o = (at.turn r.0 r.1).next.owed in
-    (o.0, o.1, o.2, o.3)
+leads_to_null-requires g c = word_here c.walk.invariant.at
 
 pub visit-requires-in-walk : goal.visit-requires-in-walk
 visit-requires-in-walk g c =
-    let m = g.M.Segments.segments c.args.message.now in
-    let w = c.walk in
-    let r = has_rest w.run w.invariant.at.full in
-    let h = turn_here m (g.P.Pass.state w.pass) c.args.depth w.stack.items w.run w.end c.object_at-object.result w.invariant.at r.0 r.1
-    c.object_at-object.ensures in
+    let h = here c.object_at-object.result c.walk.invariant.at c.object_at-object.ensures in
     (trim h.at.root, h.at.tree, h.at.due, h.turn, h.at.so_far)
 
 pub run_of-below-requires : goal.run_of-below-requires
 run_of-below-requires g c =
-    let m = g.M.Segments.segments c.args.message.now in
     let w = c.walk in
-    let r = has_rest w.run w.invariant.at.full in
-    let h = turn_here m (g.P.Pass.state w.pass) c.args.depth w.stack.items w.run w.end c.object_at-object.result w.invariant.at r.0 r.1
-    c.object_at-object.ensures in
-    (m, h.met.d, w.run.segment, w.run.at, h.at.tree, h.met.next.message, h.met.is, own_within w.end longest_copy h.at.tree h.at.due w.run.slot h.at.next.small)
+    let h = here c.object_at-object.result w.invariant.at c.object_at-object.ensures in
+    (g.M.Segments.segments c.args.message.now, h.met.d, w.run.segment, w.run.at, h.at.tree, h.met.next.message, h.met.is, within h)
 
 pub own_words-end-requires : goal.own_words-end-requires
 own_words-end-requires g c =
-    let m = g.M.Segments.segments c.args.message.now in
     let w = c.walk in
-    let r = has_rest w.run w.invariant.at.full in
-    let h = turn_here m (g.P.Pass.state w.pass) c.args.depth w.stack.items w.run w.end c.object_at-object.result w.invariant.at r.0 r.1
-    c.object_at-object.ensures in
-    let l : w.end + own_size h.at.tree ≤ longest_copy = own_within w.end longest_copy h.at.tree h.at.due w.run.slot h.at.next.small in
-    (m, h.met.d, w.run.segment, w.run.at, h.at.tree, h.met.is, omega (arith, l))
+    let h = here c.object_at-object.result w.invariant.at c.object_at-object.ensures in
+    (g.M.Segments.segments c.args.message.now, h.met.d, w.run.segment, w.run.at, h.at.tree, h.met.is, omega (arith, within h))
 
 pub overflow_add-end : goal.overflow_add-end
 overflow_add-end g c =
-    let m = g.M.Segments.segments c.args.message.now in
     let w = c.walk in
-    let r = has_rest w.run w.invariant.at.full in
-    let h = turn_here m (g.P.Pass.state w.pass) c.args.depth w.stack.items w.run w.end c.object_at-object.result w.invariant.at r.0 r.1
-    c.object_at-object.ensures in
-    let l : w.end + own_size h.at.tree ≤ longest_copy = own_within w.end longest_copy h.at.tree h.at.due w.run.slot h.at.next.small in
-    omega (arith, l, c.own_words-end.ensures m h.met.d w.run.segment w.run.at h.at.tree h.met.is)
+    let h = here c.object_at-object.result w.invariant.at c.object_at-object.ensures in
+    omega (arith, within h, c.own_words-end.ensures _ h.met.d w.run.segment w.run.at h.at.tree h.met.is)
 
 pub go_on-requires-in-walk : goal.go_on-requires-in-walk
 go_on-requires-in-walk g c =
-    let m = g.M.Segments.segments c.args.message.now in
     let w = c.walk in
-    let r = has_rest w.run w.invariant.at.full in
-    let h = turn_here m (g.P.Pass.state w.pass) c.args.depth w.stack.items w.run w.end c.object_at-object.result w.invariant.at r.0 r.1
-    c.object_at-object.ensures in
-    let runs = w.stack.items ++ option_to_list r.0 in
-    let owed = c.run_of-below.ensures.owed m h.met.d w.run.segment w.run.at c.args.depth (length runs) h.at.tree h.met.is h.met.levels in
-    let capacity = capacity_above _ m c.args.depth (below w.end h.at.tree) w.stack.items r.0 c.run_of-below.result c.requires.capacity.0
-    c.run_of-below.ensures.full owed in
+    let h = here c.object_at-object.result w.invariant.at c.object_at-object.ensures in
+    let owed = c.run_of-below.ensures.owed _ h.met.d w.run.segment w.run.at c.args.depth _ h.at.tree h.met.is h.met.levels in
+    let capacity = capacity_above _ _ c.args.depth (below w.end h.at.tree) w.stack.items (has_rest w.run w.invariant.at.full).0
+    c.run_of-below.result c.requires.capacity.0 c.run_of-below.ensures.full owed in
     (search rules, (c.requires.capacity.1, (capacity, (w.invariant.at.full, w.invariant.at.short))))
 
 pub returns-then-not-go_on-2-clause-done : goal.returns-then-not-go_on-2-clause-done
 returns-then-not-go_on-2-clause-done g c =
-    let m = g.M.Segments.segments c.args.message.now in
     let w = c.walk in
     let on = c.go_on-in-walk.ensures in
-    let h = turn_here m (g.P.Pass.state w.pass) c.args.depth w.stack.items w.run w.end c.object_at-object.result w.invariant.at
-    on.rest on.is_rest c.object_at-object.ensures in
-    let runs = w.stack.items ++ option_to_list on.rest in
-    let e = ap (λ n. w.end + n) (c.own_words-end.ensures m h.met.d w.run.segment w.run.at h.at.tree h.met.is) in
-    let owed = c.run_of-below.ensures.owed m h.met.d w.run.segment w.run.at c.args.depth (length runs) h.at.tree h.met.is h.met.levels in
-    let all = entered m c.args.depth w.end (w.end + c.own_words-end.result) (first_place w.run) h.at.tree h.at.due runs c.run_of-below.result
-    c.object_at-object.result h.met e c.run_of-below.ensures.full owed in
+    let h = turn_here _ _ _ _ _ _ c.object_at-object.result w.invariant.at on.rest on.is_rest c.object_at-object.ensures in
+    let e = ap (λ n. w.end + n) (c.own_words-end.ensures _ h.met.d w.run.segment w.run.at h.at.tree h.met.is) in
+    let owed = c.run_of-below.ensures.owed _ h.met.d w.run.segment w.run.at c.args.depth _ h.at.tree h.met.is h.met.levels in
     let none = on.runs ∙ ap (λ b. runs_left b c.go_on-in-walk.new.stack.items c.go_on-in-walk.new.run) c.if-not-go_on-2.true in
-    let walking = subst (λ (fs : List CopyRun). IsWalking m c.args.depth fs (w.end + c.own_words-end.result) (below w.end h.at.tree ++ h.at.due)) none all in
-    let so_far = c.visit-in-walk.ensures.goes_on (trim h.at.root) h.at.tree h.at.due h.turn h.at.so_far in
-    last_turn m (g.P.Pass.state w.pass) (g.P.Pass.state c.visit-in-walk.new.self) c.args.depth runs
-    (first_place w.run) w.end (w.end + c.own_words-end.result) h.at e walking so_far
+    last_turn _ (g.P.Pass.state w.pass) (g.P.Pass.state c.visit-in-walk.new.self) _ _ _ _ _ h.at e
+    (walking h c.run_of-below.result _ [] e c.run_of-below.ensures.full owed none)
+    (c.visit-in-walk.ensures.goes_on (trim h.at.root) h.at.tree h.at.due h.turn h.at.so_far)
 
 pub returns-then-not-go_on-2-clause-kept : goal.returns-then-not-go_on-2-clause-kept
 returns-then-not-go_on-2-clause-kept g c =
-    let m = g.M.Segments.segments c.args.message.now in
-    let w = c.walk in
-    let r = has_rest w.run w.invariant.at.full in
-    let h = turn_here m (g.P.Pass.state w.pass) c.args.depth w.stack.items w.run w.end c.object_at-object.result w.invariant.at r.0 r.1
-    c.object_at-object.ensures in
-    λ t x d k.
-    (let same = one_tree m 0 0 h.at.root t h.at.charge c.args.depth x d h.at.denotes k in
-    subst (λ u. g.P.Pass.kept c.visit-in-walk.new.self (trim u) ≡ g.P.Pass.kept w.pass (trim u)) same.part
-    (c.visit-in-walk.ensures.kept (trim h.at.root) h.at.tree h.at.due h.turn h.at.so_far) ∙ w.invariant.kept t x d k)
+    let h = here c.object_at-object.result c.walk.invariant.at c.object_at-object.ensures in
+    kept_on h (g.P.Pass.kept c.visit-in-walk.new.self) (g.P.Pass.kept c.walk.pass) (g.P.Pass.kept c.args.pass.now)
+    (c.visit-in-walk.ensures.kept (trim h.at.root) h.at.tree h.at.due h.turn h.at.so_far) c.walk.invariant.kept
 
 pub walk-smaller : goal.walk-smaller
 walk-smaller g c =
-    let m = g.M.Segments.segments c.args.message.now in
     let w = c.walk in
     let on = c.go_on-in-walk.ensures in
-    let h = turn_here m (g.P.Pass.state w.pass) c.args.depth w.stack.items w.run w.end c.object_at-object.result w.invariant.at
-    on.rest on.is_rest c.object_at-object.ensures in
+    let h = turn_here _ _ _ _ _ _ c.object_at-object.result w.invariant.at on.rest on.is_rest c.object_at-object.ensures in
     let runs = w.stack.items ++ option_to_list on.rest in
     let new = c.go_on-in-walk.new in
     let same = on.runs ∙ ap (λ b. runs_left b new.stack.items new.run) c.if-not-go_on-2.false in
-    let e = c.own_words-end.ensures m h.met.d w.run.segment w.run.at h.at.tree h.met.is in
-    let owed = c.run_of-below.ensures.owed m h.met.d w.run.segment w.run.at h.met.d 0 h.at.tree h.met.is (omega arith) in
-    let more = work_more m h.met.d w.run.segment w.run.at w.end h.at.tree c.object_at-object.result runs c.run_of-below.result h.met.is owed in
+    let e = c.own_words-end.ensures _ h.met.d w.run.segment w.run.at h.at.tree h.met.is in
+    let owed = c.run_of-below.ensures.owed _ h.met.d w.run.segment w.run.at h.met.d 0 h.at.tree h.met.is (omega arith) in
+    let more = work_more _ h.met.d w.run.segment w.run.at w.end h.at.tree c.object_at-object.result runs
+    c.run_of-below.result h.met.is owed in
     let less = subst (λ (fs : List CopyRun). work_left fs ≤ work_left runs + own_size h.at.tree) same more in
-    let full : w.end + own_size h.at.tree ≤ longest_copy = own_within w.end longest_copy h.at.tree h.at.due w.run.slot h.at.next.small in
     rw e (work_falls (work_left (w.stack.items ++ w.run ∷ [])) (work_left runs) (work_left (new.stack.items ++ new.run ∷ [])) w.end longest_copy
-    (own_size h.at.tree) (next_work w.stack.items w.run on.rest on.is_rest) less full)
+    (own_size h.at.tree) (next_work w.stack.items w.run on.rest on.is_rest) less (within h))
 
 pub walk-preserved : goal.walk-preserved
 walk-preserved g c =
-    let m = g.M.Segments.segments c.args.message.now in
     let w = c.walk in
     let on = c.go_on-in-walk.ensures in
-    let h = turn_here m (g.P.Pass.state w.pass) c.args.depth w.stack.items w.run w.end c.object_at-object.result w.invariant.at
-    on.rest on.is_rest c.object_at-object.ensures in
-    let runs = w.stack.items ++ option_to_list on.rest in
-    let e = ap (λ n. w.end + n) (c.own_words-end.ensures m h.met.d w.run.segment w.run.at h.at.tree h.met.is) in
-    let owed = c.run_of-below.ensures.owed m h.met.d w.run.segment w.run.at c.args.depth (length runs) h.at.tree h.met.is h.met.levels in
-    let all = entered m c.args.depth w.end (w.end + c.own_words-end.result) (first_place w.run) h.at.tree h.at.due runs c.run_of-below.result
-    c.object_at-object.result h.met e c.run_of-below.ensures.full owed in
+    let h = turn_here _ _ _ _ _ _ c.object_at-object.result w.invariant.at on.rest on.is_rest c.object_at-object.ensures in
+    let e = ap (λ n. w.end + n) (c.own_words-end.ensures _ h.met.d w.run.segment w.run.at h.at.tree h.met.is) in
+    let owed = c.run_of-below.ensures.owed _ h.met.d w.run.segment w.run.at c.args.depth _ h.at.tree h.met.is h.met.levels in
     let new = c.go_on-in-walk.new in
-    let same = on.runs ∙ ap (λ b. runs_left b new.stack.items new.run) c.if-not-go_on-2.false in
-    let walking = subst (λ (fs : List CopyRun). IsWalking m c.args.depth fs (w.end + c.own_words-end.result) (below w.end h.at.tree ++ h.at.due)) same all in
-    let so_far = c.visit-in-walk.ensures.goes_on (trim h.at.root) h.at.tree h.at.due h.turn h.at.so_far in record {
-      at = next_run m (g.P.Pass.state w.pass) (g.P.Pass.state c.visit-in-walk.new.self) c.args.depth runs new.stack.items
-          (first_place w.run) w.end (w.end + c.own_words-end.result) new.run h.at e walking so_far;
-      kept = λ t x d k.
-          (let same = one_tree m 0 0 h.at.root t h.at.charge c.args.depth x d h.at.denotes k in
-          subst (λ u. g.P.Pass.kept c.visit-in-walk.new.self (trim u) ≡ g.P.Pass.kept w.pass (trim u)) same.part
-          (c.visit-in-walk.ensures.kept (trim h.at.root) h.at.tree h.at.due h.turn h.at.so_far) ∙ w.invariant.kept t x d k);
+    let same = on.runs ∙ ap (λ b. runs_left b new.stack.items new.run) c.if-not-go_on-2.false in record {
+      at = next_run _ (g.P.Pass.state w.pass) (g.P.Pass.state c.visit-in-walk.new.self) _ _ new.stack.items _ _ _ new.run h.at e
+          (walking h c.run_of-below.result _ (new.stack.items ++ new.run ∷ []) e c.run_of-below.ensures.full owed same)
+          (c.visit-in-walk.ensures.goes_on (trim h.at.root) h.at.tree h.at.due h.turn h.at.so_far);
+      kept = kept_on h (g.P.Pass.kept c.visit-in-walk.new.self) (g.P.Pass.kept w.pass) (g.P.Pass.kept c.args.pass.now)
+          (c.visit-in-walk.ensures.kept (trim h.at.root) h.at.tree h.at.due h.turn h.at.so_far) w.invariant.kept;
     }
 
 pub visit-requires : goal.visit-requires
 visit-requires g c =
-    let m = g.M.Segments.segments c.args.message.now in
-    let w = c.walk in
-    let r = has_rest w.run w.invariant.at.full in
-    let h = turn_here m (g.P.Pass.state w.pass) c.args.depth w.stack.items w.run w.end object.Null w.invariant.at r.0 r.1
-    (c.leads_to_null.ensures c.if-leads_to_null.true) in
+    let h = here object.Null c.walk.invariant.at (c.leads_to_null.ensures c.if-leads_to_null.true) in
     (trim h.at.root, h.at.tree, h.at.due, h.turn, h.at.so_far)
 
 pub go_on-requires : goal.go_on-requires
@@ -171,54 +147,35 @@ go_on-requires g c = (search rules, (c.requires.capacity.1, (tt, (c.walk.invaria
 
 pub returns-then-not-go_on-clause-done : goal.returns-then-not-go_on-clause-done
 returns-then-not-go_on-clause-done g c =
-    let m = g.M.Segments.segments c.args.message.now in
     let w = c.walk in
     let on = c.go_on.ensures in
-    let h = turn_here m (g.P.Pass.state w.pass) c.args.depth w.stack.items w.run w.end object.Null w.invariant.at
-    on.rest on.is_rest (c.leads_to_null.ensures c.if-leads_to_null.true) in
-    let runs = w.stack.items ++ option_to_list on.rest in
-    let zero : own_size h.at.tree ≡ 0 = ap own_size h.met.is in
-    let e : w.end ≡ w.end + own_size h.at.tree = omega (arith, zero) in
-    let owed = subst (λ u. AreOwed m c.args.depth (length runs + 1) [] (below w.end u)) (sym h.met.is) tt in
-    let all = entered m c.args.depth w.end w.end (first_place w.run) h.at.tree h.at.due runs None object.Null h.met e tt owed in
+    let h = turn_here _ _ _ _ _ _ object.Null w.invariant.at on.rest on.is_rest (c.leads_to_null.ensures c.if-leads_to_null.true) in
+    let e : w.end ≡ w.end + own_size h.at.tree = omega (arith, ap own_size h.met.is) in
+    let owed = subst (λ u. AreOwed (g.M.Segments.segments c.args.message.now) c.args.depth
+    (length (w.stack.items ++ option_to_list on.rest) + 1) [] (below w.end u)) (sym h.met.is) tt in
     let none = on.runs ∙ ap (λ b. runs_left b c.go_on.new.stack.items c.go_on.new.run) c.if-not-go_on.true in
-    let walking = subst (λ (fs : List CopyRun). IsWalking m c.args.depth fs w.end (below w.end h.at.tree ++ h.at.due)) none all in
-    let so_far = c.visit.ensures.goes_on (trim h.at.root) h.at.tree h.at.due h.turn h.at.so_far in
-    last_turn m (g.P.Pass.state w.pass) (g.P.Pass.state c.visit.new.self) c.args.depth runs
-    (first_place w.run) w.end w.end h.at e walking so_far
+    last_turn _ (g.P.Pass.state w.pass) (g.P.Pass.state c.visit.new.self) _ _ _ _ _ h.at e
+    (walking h None _ [] e tt owed none) (c.visit.ensures.goes_on (trim h.at.root) h.at.tree h.at.due h.turn h.at.so_far)
 
 pub returns-then-not-go_on-clause-kept : goal.returns-then-not-go_on-clause-kept
 returns-then-not-go_on-clause-kept g c =
-    let m = g.M.Segments.segments c.args.message.now in
-    let w = c.walk in
-    let r = has_rest w.run w.invariant.at.full in
-    let h = turn_here m (g.P.Pass.state w.pass) c.args.depth w.stack.items w.run w.end object.Null w.invariant.at r.0 r.1
-    (c.leads_to_null.ensures c.if-leads_to_null.true) in
-    λ t x d k.
-    (let same = one_tree m 0 0 h.at.root t h.at.charge c.args.depth x d h.at.denotes k in
-    subst (λ u. g.P.Pass.kept c.visit.new.self (trim u) ≡ g.P.Pass.kept w.pass (trim u)) same.part
-    (c.visit.ensures.kept (trim h.at.root) h.at.tree h.at.due h.turn h.at.so_far) ∙ w.invariant.kept t x d k)
+    let h = here object.Null c.walk.invariant.at (c.leads_to_null.ensures c.if-leads_to_null.true) in
+    kept_on h (g.P.Pass.kept c.visit.new.self) (g.P.Pass.kept c.walk.pass) (g.P.Pass.kept c.args.pass.now)
+    (c.visit.ensures.kept (trim h.at.root) h.at.tree h.at.due h.turn h.at.so_far) c.walk.invariant.kept
 
 pub walk-preserved-then-leads_to_null : goal.walk-preserved-then-leads_to_null
 walk-preserved-then-leads_to_null g c =
-    let m = g.M.Segments.segments c.args.message.now in
     let w = c.walk in
     let on = c.go_on.ensures in
-    let h = turn_here m (g.P.Pass.state w.pass) c.args.depth w.stack.items w.run w.end object.Null w.invariant.at
-    on.rest on.is_rest (c.leads_to_null.ensures c.if-leads_to_null.true) in
-    let runs = w.stack.items ++ option_to_list on.rest in
-    let zero : own_size h.at.tree ≡ 0 = ap own_size h.met.is in
-    let e : w.end ≡ w.end + own_size h.at.tree = omega (arith, zero) in
-    let owed = subst (λ u. AreOwed m c.args.depth (length runs + 1) [] (below w.end u)) (sym h.met.is) tt in
-    let all = entered m c.args.depth w.end w.end (first_place w.run) h.at.tree h.at.due runs None object.Null h.met e tt owed in
+    let h = turn_here _ _ _ _ _ _ object.Null w.invariant.at on.rest on.is_rest (c.leads_to_null.ensures c.if-leads_to_null.true) in
+    let e : w.end ≡ w.end + own_size h.at.tree = omega (arith, ap own_size h.met.is) in
+    let owed = subst (λ u. AreOwed (g.M.Segments.segments c.args.message.now) c.args.depth
+    (length (w.stack.items ++ option_to_list on.rest) + 1) [] (below w.end u)) (sym h.met.is) tt in
     let new = c.go_on.new in
-    let same = on.runs ∙ ap (λ b. runs_left b new.stack.items new.run) c.if-not-go_on.false in
-    let walking = subst (λ (fs : List CopyRun). IsWalking m c.args.depth fs w.end (below w.end h.at.tree ++ h.at.due)) same all in
-    let so_far = c.visit.ensures.goes_on (trim h.at.root) h.at.tree h.at.due h.turn h.at.so_far in record {
-      at = next_run m (g.P.Pass.state w.pass) (g.P.Pass.state c.visit.new.self) c.args.depth runs new.stack.items
-          (first_place w.run) w.end w.end new.run h.at e walking so_far;
-      kept = λ t x d k.
-          (let same = one_tree m 0 0 h.at.root t h.at.charge c.args.depth x d h.at.denotes k in
-          subst (λ u. g.P.Pass.kept c.visit.new.self (trim u) ≡ g.P.Pass.kept w.pass (trim u)) same.part
-          (c.visit.ensures.kept (trim h.at.root) h.at.tree h.at.due h.turn h.at.so_far) ∙ w.invariant.kept t x d k);
+    let same = on.runs ∙ ap (λ b. runs_left b new.stack.items new.run) c.if-not-go_on.false in record {
+      at = next_run _ (g.P.Pass.state w.pass) (g.P.Pass.state c.visit.new.self) _ _ new.stack.items _ _ _ new.run h.at e
+          (walking h None _ (new.stack.items ++ new.run ∷ []) e tt owed same)
+          (c.visit.ensures.goes_on (trim h.at.root) h.at.tree h.at.due h.turn h.at.so_far);
+      kept = kept_on h (g.P.Pass.kept c.visit.new.self) (g.P.Pass.kept w.pass) (g.P.Pass.kept c.args.pass.now)
+          (c.visit.ensures.kept (trim h.at.root) h.at.tree h.at.due h.turn h.at.so_far) w.invariant.kept;
     }
