@@ -71,9 +71,8 @@ buffered m s start at ds ps count i most es c d lt k h = go r.0 r.1 r.2 r.3 r.4
 
     go : (fs : Trees) (c' d' : ℕ) → AreElements m s at ds ps (count - i) fs c' d' → max most (children_of fs) ≡ children_of es
         → Buffered m s start at ds ps count i most es
-    go none c' d' f e = absurd (omega (arith, lt, f.0))
     go (more (struct ws ts) fs) c' d' f e = search (rules, element_parts)
-    go (more _ fs) c' d' f e = absurd f
+    go fs c' d' f e = search rules
 
 pub children_seen : (m : List (List ℕ)) (s start at ds ps count i most now : ℕ) → i < count
     → ((ts : Trees) (c d : ℕ) → DenoteEach m (places s (at + ds) ps) ts c d → now ≡ max most (children_needed ts)) → now ≤ ps

@@ -2,11 +2,11 @@
 use Rattle.cap_spec.specs.Tree.{none}
 use Rattle.cap_spec.proofs.Canonical.Placing.{lie_word}
 use Rattle.cap_spec.proofs.Lemmas.{range_length, length-scalar_words}
-use Rattle.cap_spec.proofs.ProofNames.{List, Some, [], ap, append_assoc, arith, inl, inr, length, length-append}
-use Rattle.cap_spec.proofs.ProofNames.{slice_get, subst, suc, sym, zero, ℕ, ◌*◌, ◌++◌, ◌+◌, ◌<◌, ◌∙◌, ◌∷◌, ◌≡◌}
-use Rattle.cap_spec.proofs.ProofNames.{◌≤◌, get_or-append_right, get_or_append_left, length-map-range_with_len}
-use Rattle.cap_spec.proofs.ProofNames.{slice_get_within, struct_word, values_of, words_from, segment_of, HasWordsAt}
-use Rattle.cap_spec.proofs.ProofNames.{scalar_words, Tree, Trees, more, struct, structs, tree_count, rules}
+use Rattle.cap_spec.proofs.ProofNames.{List, [], ap, append_assoc, arith, inl, inr, length, length-append, subst, suc}
+use Rattle.cap_spec.proofs.ProofNames.{sym, zero, ℕ, ◌*◌, ◌++◌, ◌+◌, ◌<◌, ◌∙◌, ◌∷◌, ◌≡◌, ◌≤◌, get_or-append_right}
+use Rattle.cap_spec.proofs.ProofNames.{get_or_append_left, length-map-range_with_len, slice_get_within, struct_word}
+use Rattle.cap_spec.proofs.ProofNames.{values_of, words_from, segment_of, HasWordsAt, scalar_words, Tree, Trees, more}
+use Rattle.cap_spec.proofs.ProofNames.{struct, structs, tree_count, rules}
 use Rattle.cap_canon.specs.Filling.{Fills, IsDue, OwnAppended, elements_from, part_words, parts_words}
 use Rattle.cap_canon.specs.Laying.{DataAt, Due, element_slots, own_size, slots}
 use Rattle.cap_canon.specs.Objects.{AreElementsLeft, IsPointersObject, IsScalarsObject, IsStructObject, IsStructsObject}
@@ -62,33 +62,20 @@ elements_fill m whole deep t b c ds ps d p es hd hp h a at k lt = search rules
 -- what is left of a struct
 pub struct_appended : (m : List (List ℕ)) (deep s w : ℕ) (u : Tree) (x : Part) (old new : List ℕ) → IsStructObject m deep s w u x
     → new ≡ old ++ part_words m x → OwnAppended old new u
-struct_appended m deep s w u x old new h e = subst (λ (v : Tree). OwnAppended old new v) (sym h.tree) own
-  where
-    front : List ℕ
-    front = words_from m x.segment x.start x.data_left
-
-    row : List ℕ
-    row = words_from m x.segment (x.start + x.data_words) x.pointers_left
-
-    y : length front ≡ x.data_left
-    y = range_length m x.segment x.start x.data_left (omega (arith, h.fewer, h.found.inside))
-
-    z : length row ≡ x.pointers_left
-    z = range_length m x.segment (x.start + x.data_words) x.pointers_left (omega (arith, h.fewer, h.found.inside))
-
-    l : length h.words ≡ x.data_left
-    l = ap length h.data_words ∙ y
-
-    own : OwnAppended old new (struct h.words h.children)
-    own = record {
-      words = front ++ row;
+struct_appended m deep s w u x old new h e =
+    let y = range_length m x.segment x.start x.data_left (omega (arith, h.fewer, h.found.inside)) in
+    let z = range_length m x.segment (x.start + x.data_words) x.pointers_left (omega (arith, h.fewer, h.found.inside)) in
+    let l : length h.words ≡ x.data_left = ap length h.data_words ∙ y in
+    let own : OwnAppended old new (struct h.words h.children) = record {
+      words = part_words m x;
       appended = e;
-      many = let a = length-append front row in omega (arith, a, y, z, l, h.many);
+      many = search (rules, length-append);
       fill = λ whole at.
-          fills_join whole (length old) (length old + length h.words) front row [] (slots (length old + length h.words) h.children) (omega (arith, y, l))
-          (fills_lie whole (length old) front (subst (λ xs. HasWordsAt whole (length old) xs) h.data_words at))
-          (fills_slots whole (length old + length h.words) h.children row (z ∙ sym h.many));
-    }
+          fills_join whole (length old) (length old + length h.words) _ _ [] (slots (length old + length h.words) h.children) (omega (arith, y, l))
+          (fills_lie whole (length old) _ (subst (λ xs. HasWordsAt whole (length old) xs) h.data_words at))
+          (fills_slots whole (length old + length h.words) h.children _ (z ∙ sym h.many));
+    } in
+    subst (λ (v : Tree). OwnAppended old new v) (sym h.tree) own
 
 -- a list of values
 pub scalars_size : (m : List (List ℕ)) (s w : ℕ) (u : Tree) {t b c n words : ℕ} → IsScalarsObject m s w u t b c n words → own_size u ≡ words
@@ -106,37 +93,23 @@ pointers_appended m deep s w u t b n old new h e = search (rules, range_length, 
 -- what is left of a list of structs
 pub structs_appended : (m : List (List ℕ)) (deep s w : ℕ) (u : Tree) (n : ℕ) (x : Part) (old new : List ℕ) → IsStructsObject m deep s w u n x
     → new ≡ (old ++ struct_word n x.data_left x.pointers_left ∷ []) ++ parts_words m x n → OwnAppended old new u
-structs_appended m deep s w u n x old new h e = subst (λ (v : Tree). OwnAppended old new v) (sym h.tree) own
-  where
-    word : List ℕ
-    word = struct_word n x.data_left x.pointers_left ∷ []
-
-    count : parts_words m x (tree_count h.elements) ≡ parts_words m x n
-    count = ap (parts_words m x) h.many
-
-    inside : x.start + n * (x.data_words + x.pointers) ≤ length (segment_of m x.segment)
-    inside = omega (arith, h.start, h.found.inside)
-
-    same : tree_count h.elements * (x.data_words + x.pointers) ≡ n * (x.data_words + x.pointers)
-    same = ap (λ k. k * (x.data_words + x.pointers)) h.many
-
-    size : tree_count h.elements * (x.data_left + x.pointers_left) ≡ n * (x.data_left + x.pointers_left)
-    size = ap (λ k. k * (x.data_left + x.pointers_left)) h.many
-
-    tag : struct_word (tree_count h.elements) x.data_left x.pointers_left ≡ struct_word n x.data_left x.pointers_left
-    tag = ap (λ k. struct_word k x.data_left x.pointers_left) h.many
-
-    own : OwnAppended old new (structs x.data_left x.pointers_left h.elements)
-    own = record {
-      words = struct_word n x.data_left x.pointers_left ∷ parts_words m x n;
-      appended = e ∙ append_assoc old word (parts_words m x n);
-      many = omega (arith, length-elements_from, size);
+structs_appended m deep s w u n x old new h e =
+    let count = tree_count h.elements in
+    let inside : x.start + count * (x.data_words + x.pointers) ≤ length (segment_of m x.segment) =
+    omega (arith, h.start, h.found.inside, ap (λ k. k * (x.data_words + x.pointers)) h.many) in
+    let l = length-elements_from m x.segment x.start x.data_words x.pointers x.data_left x.pointers_left count h.fewer.0 h.fewer.1 inside in
+    let word = struct_word count x.data_left x.pointers_left ∷ [] in
+    let own : OwnAppended old new (structs x.data_left x.pointers_left h.elements) = record {
+      words = word ++ parts_words m x count;
+      appended = subst (λ k. new ≡ (old ++ struct_word k x.data_left x.pointers_left ∷ []) ++ parts_words m x k) (sym h.many) e
+          ∙ append_assoc old word (parts_words m x count);
+      many = omega (arith, l);
       fill = λ whole at.
-          let last = slice_get_within whole (length old) (struct_word (tree_count h.elements) x.data_left x.pointers_left) at.0 in
-          let due = element_slots x.data_left x.pointers_left (length old + 1) h.elements in
-          fills_join whole (length old) (length old + 1) word (parts_words m x n) [] due (omega arith)
-          (fills_lie whole (length old) word (subst (λ y. slice_get whole (length old) ≡ Some y) tag at.0, omega (arith, last)))
-          (subst (λ xs. Fills whole (length old + 1) due xs) count
-          (elements_fill m whole deep x.segment x.start (length old + 1) x.data_words x.pointers x.data_left x.pointers_left h.elements h.fewer.0 h.fewer.1
-          (omega (arith, inside, same)) h.below at.1));
-    }
+          let last = slice_get_within whole (length old) (struct_word count x.data_left x.pointers_left) at.0 in
+          fills_join whole (length old) (length old + 1) word (parts_words m x count) []
+          (element_slots x.data_left x.pointers_left (length old + 1) h.elements) (omega arith)
+          (fills_lie whole (length old) word (at.0, omega (arith, last)))
+          (elements_fill m whole deep x.segment x.start (length old + 1) x.data_words x.pointers x.data_left x.pointers_left h.elements
+          h.fewer.0 h.fewer.1 inside h.below at.1);
+    } in
+    subst (λ (v : Tree). OwnAppended old new v) (sym h.tree) own

@@ -30,13 +30,9 @@ struct_found m s w x c d {k} {t} {b} {q} {tag} {n} {charge} {ds} {ps} h f = go x
     form = subst (HasForm x) (number_struct (kind q) (code q) f.object.shape.kind) (found_form m s w x c d k t b q h f.finds)
 
     go : (x : Tree) → HasForm x 2 → Denotes m s w x c d → IsStructAt m s w t b ds ps x d
-    go null g h = absurd (omega (arith, g))
-    go (cap i) g h = absurd (omega (arith, g))
     go (struct ws ts) g (k', t', b', q', tag', ds', ps', inner, deep, found', own, each) =
         search (rules, one_found found'.object (object_at _ _ _ _ _ _ _ _ _ _ _ f), extent_struct)
-    go (scalars e vs) g h = absurd (omega (arith, g.0))
-    go (pointers ts) g h = absurd (omega (arith, g))
-    go (structs y z es) g h = absurd (omega (arith, g))
+    go es g h = search rules
 
 -- as it is trimmed
 pub struct_object : (m : List (List ℕ)) (s w d : ℕ) (p : Part) (x : Tree) → IsStructAt m s w p.segment p.start p.data_words p.pointers x d
@@ -77,10 +73,6 @@ pointers_object m s w x c d {k} {t} {b} {q} {tag} {words} {charge} count h f = g
     form = search (rules, number_list, found_form)
 
     go : (x : Tree) → HasForm x 9 → Denotes m s w x c d → IsObject m d s w (trim x) (object.Pointers t b count)
-    go null g h = absurd (omega (arith, g))
-    go (cap i) g h = absurd (omega (arith, g))
-    go (struct ws ts) g h = absurd (omega (arith, g))
-    go (scalars e vs) g h = absurd (omega (arith, g.1))
     go (pointers ts) g (k', t', b', q', tag', n, inner, deep, found, each) =
         let o = one_found found.object (object_at m s w k t b q tag words charge (shape.Pointers count) f) in
         let z : n ≡ count = cc o.kind in
@@ -90,7 +82,7 @@ pointers_object m s w x c d {k} {t} {b} {q} {tag} {words} {charge} count h f = g
           omega (arith, found.depth),
           search (rules, tree_count-trim_all, row_count, extent_pointers, row_left),
         )
-    go (structs y z es) g h = absurd (omega (arith, g))
+    go es g h = search rules
 
 -- a list of structs
 pub structs_found : (m : List (List ℕ)) (s w : ℕ) (x : Tree) (c d : ℕ) {k t b q tag words charge : ℕ} (size : ℕ) {n ds ps : ℕ} → Denotes m s w x c d
@@ -107,13 +99,9 @@ structs_found m s w x c d {k} {t} {b} {q} {tag} {words} {charge} size {n} {ds} {
     fits = rw (f.object.shape.count, f.object.shape.data_words, f.object.shape.pointers) tagged.1.1
 
     go : (x : Tree) → HasForm x 10 → Denotes m s w x c d → IsStructsAt m s w t b n ds ps x d
-    go null g h = absurd (omega (arith, g))
-    go (cap i) g h = absurd (omega (arith, g))
-    go (struct ws ts) g h = absurd (omega (arith, g))
-    go (scalars e vs) g h = absurd (omega (arith, g.1))
-    go (pointers ts) g h = absurd (omega (arith, g))
     go (structs y z es) g (k', t', b', q', tag', n', inner, deep, found', each) =
         search (rules, one_found found'.object (object_at _ _ _ _ _ _ _ _ _ _ _ f), extent_structs, elements_moved)
+    go es g h = search rules
 
 pub structs_object : (m : List (List ℕ)) (s w b n d : ℕ) (p : Part) (x : Tree) → p.start ≡ b + 1 → IsStructsAt m s w p.segment b n p.data_words p.pointers x d
     → p.data_left ≡ most_data m p.segment p.start p.data_words p.pointers n → p.data_left ≤ p.data_words

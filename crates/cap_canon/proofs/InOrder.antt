@@ -1,19 +1,18 @@
 -- A message is compared with its copy while it is vetted, one object more.
-use Rattle.cap_spec.proofs.ProofNames.{common_steps}
 use Rattle.cap_spec.specs.Denoting.{places}
 use Rattle.cap_spec.specs.Tree.{none}
-use Rattle.cap_spec.specs.declared.Step.TheVariants.{Item, Ptr}
+use Rattle.cap_spec.specs.declared.Step.TheVariants.{Ptr}
 use Rattle.cap_spec.proofs.Lemmas.{one_word, one_lead, near_has_none, extent_pointers, extent_struct, extent_structs}
 use Rattle.cap_spec.proofs.Lemmas.{extra_same, range_length, object_parts, one_tree}
-use Rattle.cap_spec.proofs.ProofNames.{Bool, List, None, [], ap, arith, false, if◌then◌else◌, inl, inr, length, max}
-use Rattle.cap_spec.proofs.ProofNames.{ne_eqb, refl, subst, suc, sym, true, zero, ℕ, ◌*◌, ◌++◌, ◌+◌, ◌-◌, ◌<◌, ◌==◌}
-use Rattle.cap_spec.proofs.ProofNames.{◌^◌, ◌↔◌, ◌∙◌, ◌∷◌, ◌≡◌, ◌≢◌, ◌≤◌, length-map-range_with_len, children_needed}
-use Rattle.cap_spec.proofs.ProofNames.{children_of, data_needed, layout, list_word, pointer_to, struct_word, trim}
-use Rattle.cap_spec.proofs.ProofNames.{IsCanonical, AreElements, DenoteEach, Denotes, Finds, element_levels, value_at}
-use Rattle.cap_spec.proofs.ProofNames.{values_of, words_from, IsComposite, Lead, Leads, Says, extra, to_cap, to_null}
-use Rattle.cap_spec.proofs.ProofNames.{to_object, HasWord, segment_of, Costs, Reaches, HasWordsAt, code, data_size}
-use Rattle.cap_spec.proofs.ProofNames.{element_bits, extent, kind, list_size, middle, pointer_size, scalar_words}
-use Rattle.cap_spec.proofs.ProofNames.{IsStrict, Tree, Trees, more, struct, tree_count, rules}
+use Rattle.cap_spec.proofs.ProofNames.{common_steps, Bool, List, None, [], ap, arith, false, if◌then◌else◌, inl, inr}
+use Rattle.cap_spec.proofs.ProofNames.{length, max, ne_eqb, refl, subst, suc, sym, true, zero, ℕ, ◌*◌, ◌++◌, ◌+◌, ◌-◌}
+use Rattle.cap_spec.proofs.ProofNames.{◌<◌, ◌==◌, ◌^◌, ◌↔◌, ◌∙◌, ◌∷◌, ◌≡◌, ◌≢◌, ◌≤◌, length-map-range_with_len}
+use Rattle.cap_spec.proofs.ProofNames.{children_needed, children_of, data_needed, layout, list_word, pointer_to}
+use Rattle.cap_spec.proofs.ProofNames.{struct_word, trim, IsCanonical, AreElements, DenoteEach, Denotes, Finds}
+use Rattle.cap_spec.proofs.ProofNames.{value_at, values_of, words_from, IsComposite, Lead, Leads, Says, extra, to_cap}
+use Rattle.cap_spec.proofs.ProofNames.{to_null, to_object, HasWord, segment_of, Costs, Reaches, HasWordsAt, code}
+use Rattle.cap_spec.proofs.ProofNames.{data_size, element_bits, extent, kind, list_size, middle, pointer_size}
+use Rattle.cap_spec.proofs.ProofNames.{scalar_words, IsStrict, Tree, Trees, more, struct, tree_count, rules}
 use Rattle.cap_spec.proofs.Trees.Charges.{one_cost}
 use Rattle.cap_ptr.specs.Rows.{HasPointers}
 use Rattle.cap_ptr.specs.Shapes.{FindsObject, IsShape}
@@ -114,22 +113,17 @@ pointers_own m w end k t b q tag words charge n s f has x c deep h =
     let here : HasWord m 0 w (pointer_to (end - w - 1) (trim x)) = subst (λ z. HasWord m 0 w z) (sym e) has in
     let place = pointers_place m o.0 w end (trim x) t b n o.2 s.after (omega (arith, s.inside, s.few)) here in
     let size : own_size (trim x) ≡ tree_count o.2.children = ap own_size o.2.tree in
-    let extent = extent_pointers q f.object.shape.kind f.object.shape.code in
-    let ends : end + words ≡ end + own_size (trim x) = omega (arith, size, o.2.many, extent, f.object.words, f.object.shape.count) in
+    let ends : end + words ≡ end + own_size (trim x) = search (rules, extent_pointers) in
     own_of m w end (end + words) q tag t b deep (trim x) (object.Pointers t b n) s.after here place.own ends o (λ path level.
-    let due : AreDue m (row path (level + 1) Item t b 0 n) (slots end o.2.children) =
-    row_due m o.0 path (level + 1) Item t b end 0 n o.2.children o.2.many (λ _. place.place) o.2.below in
-    let due' : AreDue m (row path (level + 1) Item t b 0 n) (below end (trim x)) =
-    subst (λ (v : Tree). AreDue m (row path (level + 1) Item t b 0 n) (below end v)) (sym o.2.tree) due in
-    rw (f.object.shape.kind, f.object.shape.code, ← f.object.shape.count) due')
+    search (rules, o.2.tree, row_due))
 
 -- a list of values
 pub values_own : (m : List (List ℕ)) (w end k t b q tag words charge c n : ℕ) → MayStartAt m w end
     → FindsObject m 0 w k t b q tag words charge (shape.Scalars c n) → HasWord m 0 w (list_word (end - w - 1) c n)
     → HasWordsAt (segment_of m 0) end (scalar_words c (values_of m 0 end c n)) → HasOwn m w end (end + words) q tag t b
 values_own m w end k t b q tag words charge c n s f has lie x cost deep h =
-    search (rules, scalars_object m 0 w x cost deep c n h f,
-        length-map-range_with_len (value_at (segment_of m t) b (element_bits c)) 0 n, scalars_place, ne_eqb)
+    let many = length-map-range_with_len (value_at (segment_of m t) b (element_bits c)) 0 n in
+    search (rules, scalars_object m 0 w x cost deep c n h f, many, scalars_place, ne_eqb)
 
 -- how many elements a list of structs has, and that they exist
 pub structs_inside : (m : List (List ℕ)) (w k t b q tag words charge size n d p : ℕ)
@@ -151,22 +145,16 @@ pub structs_own : (m : List (List ℕ)) (w end k t b q tag words charge size n d
     → HasOwn m w end (end + words) q tag t b
 structs_own m w end k t b q tag words charge size n d p s f has has_tag sizes children x c deep h =
     let part : Part = record { segment = t; start = b + 1; data_words = d; pointers = p; data_left = d; pointers_left = p } in
-    let o = structs_object m 0 w b n deep part x refl (structs_found m 0 w x c deep size h f) sizes (omega arith) children
-    (omega arith) in
+    let o = structs_object m 0 w b n deep part x refl (structs_found m 0 w x c deep size h f) sizes (omega arith) children (omega arith) in
     let e : pointer_to (end - w - 1) (trim x) ≡ list_word (end - w - 1) 7 (n * (d + p)) = search rules in
     let here : HasWord m 0 w (pointer_to (end - w - 1) (trim x)) = subst (λ z. HasWord m 0 w z) (sym e) has in
     let place = structs_place m o.0 w end (trim x) n part o.2 s.after (omega (arith, s.inside, s.few)) here in
     let lie = structs_lie m o.0 w end (trim x) n part o.2 place has_tag in
     let start = structs_start m w end k t b q tag words charge size n d p s f has in
     let size' : own_size (trim x) ≡ 1 + n * (d + p) = ap own_size o.2.tree ∙ ap (λ i. 1 + i * (d + p)) o.2.many in
-    let extent = extent_structs q f.object.shape.kind f.object.shape.code in
-    let ends : end + words ≡ end + own_size (trim x) = omega (arith, size', extent, start.1, f.object.words) in
+    let ends : end + words ≡ end + own_size (trim x) = search (rules, extent_structs) in
     own_of m w end (end + words) q tag t b deep (trim x) (object.Structs n part) s.after here lie.own ends o (λ path level.
-    let rows = element_rows path (level + (element_levels 1 + 1)) t (b + 1) d p 0 n in
-    let due : AreDue m rows (element_slots d p (end + 1) o.2.elements) =
-    elements_due m o.0 path (level + (element_levels 1 + 1)) t (b + 1) (end + 1) d p 0 n o.2.elements place.segment place.start o.2.many o.2.below in
-    let due' : AreDue m rows (below end (trim x)) = subst (λ (v : Tree). AreDue m rows (below end v)) (sym o.2.tree) due in
-    rw (f.object.shape.kind, f.object.shape.code, ← f.object.shape.data_words, ← f.object.shape.pointers, ← f.object.shape.count) due')
+    search (rules, o.2.tree, elements_due))
 
 -- The walk goes on after an object that is where a copy has it.
 laid_on : (m : List (List ℕ)) (a : Ahead) (later : List Ahead) (w end now q tag t b : ℕ) (whole : Tree) → a.word ≡ w → now ≤ length (segment_of m 0)

@@ -1,5 +1,4 @@
 -- One object more of a layout.
-use Rattle.cap_spec.specs.Tree.{none}
 use Rattle.cap_spec.proofs.Canonical.ElementPlaces.{children_begin, element_end, rest_begin}
 use Rattle.cap_spec.proofs.Canonical.Sizes.{length-contents, length-element_words, length-pointer_words}
 use Rattle.cap_spec.proofs.Lemmas.{lie_back, lie_front, FitElements, Fits}
@@ -14,7 +13,6 @@ use Rattle.cap_canon.proofs.Laying.{due_row, laid_inside, row_due, lie_join}
 pub elements_due : (words : List ℕ) (d p b c after : ℕ) (es : Trees) (due : List Due) → c ≡ b + tree_count es * (d + p) + after → FitElements d p es
     → HasWordsAt words b (element_words (d + p) after es) → HasWordsAt words c (element_contents es) → Laid words (c + element_sizes es) due
     → DataAt words b d p es × Laid words c (element_slots d p b es ++ due)
-elements_due words d p b c after none due e f sp sc l = let i : c + 0 ≡ c = omega arith in (sp, subst (λ n. Laid words n due) i l)
 elements_due words d p b c after (more (struct ws ts) es) due e f sp sc l =
     let pw = pointer_words (tree_count es * (d + p) + after) ts in
     let ew = element_words (d + p) (after + sizes ts) es in
@@ -28,7 +26,7 @@ elements_due words d p b c after (more (struct ws ts) es) due e f sp sc l =
     (lie_back words c (c + sizes ts) (contents ts) (element_contents es) (ap (λ n. c + n) (sym (length-contents ts f.2))) sc)
     (subst (λ n. Laid words n due) i l) in
     search (rules, row_due, children_begin, lie_front, append_assoc)
-elements_due words d p b c after (more _ es) due e f sp sc l = absurd f
+elements_due words d p b c after es due e f sp sc l = search rules
 
 -- the parts of elements that are laid
 pub record ElementsLaid (words : List ℕ) (each b c after : ℕ) (es : Trees) (due : List Due) : Type 0 where

@@ -9,8 +9,7 @@ use Rattle.cap_spec.proofs.ProofNames.{struct_word, take_trees, trim, trim_all, 
 use Rattle.cap_spec.proofs.ProofNames.{Denotes, words_from, HasWord, segment_of, code, data_size, kind, list_size}
 use Rattle.cap_spec.proofs.ProofNames.{middle, pointer_size, Tree, Trees, struct, structs, tree_count, rules}
 use Rattle.cap_ptr.specs.Shapes.{FindsObject}
-use Rattle.cap_canon.specs.CanonNames.{IsStructAt, Differs, HasNoWords, NoCopyHas, IsPointed, OwnAt, NeedsLess}
-use Rattle.cap_canon.specs.CanonNames.{most_data}
+use Rattle.cap_canon.specs.CanonNames.{Differs, HasNoWords, NoCopyHas, IsPointed, OwnAt, NeedsLess, most_data}
 use Rattle.cap_canon.specs.Trimming.{ListNeedsLess}
 use Rattle.cap_canon.proofs.Children.{row_needed}
 use Rattle.cap_canon.proofs.Elements.{most_data_of}
@@ -62,50 +61,28 @@ struct_needs : (m : List (List ℕ)) (w end word words charge : ℕ) (x : Tree) 
     → FindsObject m 0 w 0 0 end word 0 words charge (shape.Struct (data_size word) (pointer_size word)) → HasWord m 0 w word
     → w + 1 + middle word ≡ end → Denotes m 0 w x c d → w < end → end < 2 ^ 29 → IsPointed (segment_of m 0) end w (trim x)
     → StructNeeds m end word (trim x)
-struct_needs m w end word words charge x c d f has next h lt small pointed = go (eqb_tells (length front + tree_count first) 0)
-  where
-    k : IsStructAt m 0 w 0 end (data_size word) (pointer_size word) x d
-    k = struct_found m 0 w x c d h f
-
-    us : Trees
-    us = trim_all k.children
-
-    front : List ℕ
-    front = take (data_needed k.words) k.words
-
-    first : Trees
-    first = take_trees (children_needed us) us
-
-    e : word ≡ pointer_to (end - w - 1) (struct front first)
-    e = pointed_word m w end word (trim x) has pointed ∙ ap (pointer_to (end - w - 1)) (ap trim k.tree)
-
-    d_is : length front ≡ data_needed (words_from m 0 end (data_size word))
-    d_is = length-take-le (data_needed k.words) k.words (data_needed_le k.words) ∙ ap data_needed k.data_words
-
-    p_is : tree_count first ≡ children_needed k.children
-    p_is = tree_count-take_le (children_needed us) us (children_needed_le us) ∙ children_needed-trim k.children
-
-    d_few : length front ≤ data_size word
-    d_few = search (rules, range_length, length-take-le, data_needed_le)
-
-    p_few : tree_count first ≤ pointer_size word
-    p_few = omega (arith, p_is, row_needed m 0 (end + data_size word) (pointer_size word) k.children k.inner k.deep k.below)
-
-    go : (((length front + tree_count first == 0) ≡ true) × (length front + tree_count first ≡ 0)) ⊎
-        (((length front + tree_count first == 0) ≡ false) × (length front + tree_count first ≡ 0 → ⊥)) → StructNeeds m end word (trim x)
-    go y = search (rules, struct_fields, d_is, k, p_few, e, front, d_few, p_is, first)
+struct_needs m w end word words charge x c d f has next h lt small pointed =
+    let k = struct_found m 0 w x c d h f in
+    let us = trim_all k.children in
+    let front = take (data_needed k.words) k.words in
+    let first = take_trees (children_needed us) us in
+    let e : word ≡ pointer_to (end - w - 1) (struct front first) =
+    pointed_word m w end word (trim x) has pointed ∙ ap (pointer_to (end - w - 1)) (ap trim k.tree) in
+    let d_is : length front ≡ data_needed (words_from m 0 end (data_size word)) =
+    length-take-le (data_needed k.words) k.words (data_needed_le k.words) ∙ ap data_needed k.data_words in
+    let p_is : tree_count first ≡ children_needed k.children =
+    tree_count-take_le (children_needed us) us (children_needed_le us) ∙ children_needed-trim k.children in
+    let d_few : length front ≤ data_size word = search (rules, range_length, length-take-le, data_needed_le) in
+    let p_few : tree_count first ≤ pointer_size word =
+    omega (arith, p_is, row_needed m 0 (end + data_size word) (pointer_size word) k.children k.inner k.deep k.below) in
+    let y = eqb_tells (length front + tree_count first) 0 in search (rules, struct_fields)
 
 -- So no copy has a struct as it is that needs less, or whose last pointer is far.
 pub no_struct : (m : List (List ℕ)) (w end word words charge : ℕ)
     → FindsObject m 0 w 0 0 end word 0 words charge (shape.Struct (data_size word) (pointer_size word)) → HasWord m 0 w word
     → w + 1 + middle word ≡ end → NeedsLess m 0 end (data_size word) (pointer_size word) → NoCopyHas m w end
-no_struct m w end word words charge f has next less x c d h lt small pointed own due laid = go less
-  where
-    k : StructNeeds m end word (trim x)
-    k = struct_needs m w end word words charge x c d f has next h lt small pointed
-
-    go : NeedsLess m 0 end (data_size word) (pointer_size word) → ⊥
-    go e = search (rules, row_near, k)
+no_struct m w end word words charge f has next less x c d h lt small pointed own due laid =
+    let k = struct_needs m w end word words charge x c d f has next h lt small pointed in search (rules, row_near)
 
 -- What a list of structs needs that a copy has as it is.
 record StructsNeed (m : List (List ℕ)) (end n d p : ℕ) (u : Tree) : Type 0 where

@@ -23,21 +23,9 @@ no_words_next m w end s has =
     let f : FindsObject m 0 w 0 0 w (2 ^ 32 - 4) 0 0 0 (shape.Struct 0 0) = search rules in
     let none = range_needed m 0 w 0 (omega (arith, s.after, s.inside)) in
     let own = struct_own m w end 0 0 w (2 ^ 32 - 4) 0 0 0 0 0 s f has (omega (arith, none)) (λ ts c d h. row_empty m 0 (w + 0) ts c d refl h) in
-    let e : end + 0 ≡ end = omega arith in record {
-      word = 2 ^ 32 - 4;
-      has = has;
-      near = λ y. omega (arith, y);
-      after = s.after;
-      inside = s.inside;
-      k = 0;
-      t = 0;
-      b = w;
-      q = 2 ^ 32 - 4;
-      tag = 0;
-      finds = finds;
-      tagged = λ c. absurd (omega (arith, c.0));
-      own = subst (λ i. HasOwn m w end i (2 ^ 32 - 4) 0 0 w) e own;
-    }
+    let e : end + 0 ≡ end = omega arith in
+    let same : HasOwn m w end end (2 ^ 32 - 4) 0 0 w = subst (λ i. HasOwn m w end i (2 ^ 32 - 4) 0 0 w) e own in
+    search (rules, finds, same)
 
 -- a list without bits
 pub no_bits_next : (m : List (List ℕ)) (w end word : ℕ) → MayStartAt m w end → HasWord m 0 w word → word < 2 ^ 64 → kind word ≡ 1 → code word ≡ 0

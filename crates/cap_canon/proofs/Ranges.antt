@@ -100,16 +100,13 @@ values_laid m t b c n before x lt e inside words last = same_lists (scalar_words
     both : length (front ++ end) ≡ before + 1
     both = let a = length-append front end in omega (arith, a, many)
 
-    read : (k : ℕ) → k < before + 1 → get_or (scalar_words c vs) k 0 ≡ field (get_or (segment_of m t) (b + k) 0) 0 (used_bits c n k)
-    read k h = values_read (segment_of m t) b c n k lt (omega (arith, h, e))
-
     early : (k : ℕ) → k < before → get_or (scalar_words c vs) k 0 ≡ get_or (front ++ end) k 0
-    early k h = search (rules, front, range_word, all_at, many, read, used_all, whole_field, get_or_append_left, end)
+    early k h = search (rules, front, range_word, all_at, many, values_read, used_all, whole_field, get_or_append_left, end)
 
     late : (k : ℕ) → k ≡ before → get_or (scalar_words c vs) k 0 ≡ get_or (front ++ end) k 0
     late k h =
         let w : get_or (segment_of m t) (b + before) 0 ≡ x = get_or_from_slice_get (segment_of m t) (b + before) x 0 last in
-        let z : k - before ≡ 0 = omega (arith, h) in search (rules, get_or-append_right, end, front, many, read, vs)
+        let z : k - before ≡ 0 = omega (arith, h) in search (rules, get_or-append_right, end, front, many, values_read, vs)
 
     cases : (k : ℕ) → k < before + 1 → (k < before) ⊎ (k ≡ before)
     cases k h = search arith

@@ -45,8 +45,8 @@ pub record AtTurn (m : List (List ℕ)) (state : List (List ℕ) → Tree → �
 first_turn : (m : List (List ℕ)) (state : List (List ℕ) → Tree → ℕ → List Due → Type 0) (depth : ℕ) → IsMessage m → (k : HasTree m depth)
     → state m (trim k.tree) 1 (record { slot = 0; tree = trim k.tree } ∷ []) → AtTurn m state depth [] (place 0 0 0) 1
 first_turn m state depth is k so_far =
-    search (rules, trimmed_size_charged,
-        layout_laid (layout (trim k.tree)) (trim k.tree) (root_fits m k.tree k.charge depth k.denotes))
+    let laid = layout_laid (layout (trim k.tree)) (trim k.tree) (root_fits m k.tree k.charge depth k.denotes) in
+    search (rules, trimmed_size_charged, laid)
 
 -- the object there
 this_met : (m : List (List ℕ)) (state : List (List ℕ) → Tree → ℕ → List Due → Type 0) (depth : ℕ)
@@ -91,8 +91,8 @@ pub last_turn : (m : List (List ℕ)) (before state : List (List ℕ) → Tree �
     → state m (trim k.root) (end + own_size k.tree) (below end k.tree ++ k.due) → (t : Tree) (c d : ℕ) → Denotes m 0 0 t c d
     → (now ≡ length (layout (trim t))) × state m (trim t) now []
 last_turn m before state depth runs p end now k e w so_far t c d h =
-    search (rules, one_tree m 0 0 k.root t k.charge depth c d k.denotes h,
-        turn_laid m before depth runs p end now k e)
+    let same = one_tree m 0 0 k.root t k.charge depth c d k.denotes h in
+    search (rules, same, turn_laid m before depth runs p end now k e)
 
 -- A walk at the first word of a run, with other runs on the stack.
 pub record AtRun (m : List (List ℕ)) (state : List (List ℕ) → Tree → ℕ → List Due → Type 0) (depth : ℕ) (runs : List CopyRun)

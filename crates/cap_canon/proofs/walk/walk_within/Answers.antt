@@ -1,4 +1,4 @@
-use Rattle.cap_spec.proofs.ProofNames.{List, None, Option, [], ap, arith, length, option_to_list, refl, rules, subst, sym, ℕ}
+use Rattle.cap_spec.proofs.ProofNames.{List, None, Option, [], ap, arith, length, option_to_list, refl, rules, subst, ℕ}
 use Rattle.cap_spec.proofs.ProofNames.{◌++◌, ◌+◌, ◌∙◌, ◌∷◌, ◌≡◌, ◌≤◌, trim, Denotes, Tree}
 use Rattle.cap_spec.proofs.Trees.OneTree.{one_tree}
 use Rattle.cap_canon.specs.CanonNames.{Due, ForTrimmed, IsObject, Object, OptionFull, PointerPlace, first_place, below, own_size}
@@ -151,11 +151,9 @@ returns-then-not-go_on-clause-done g c =
     let on = c.go_on.ensures in
     let h = turn_here _ _ _ _ _ _ object.Null w.invariant.at on.rest on.is_rest (c.leads_to_null.ensures c.if-leads_to_null.true) in
     let e : w.end ≡ w.end + own_size h.at.tree = omega (arith, ap own_size h.met.is) in
-    let owed = subst (λ u. AreOwed (g.M.Segments.segments c.args.message.now) c.args.depth
-    (length (w.stack.items ++ option_to_list on.rest) + 1) [] (below w.end u)) (sym h.met.is) tt in
     let none = on.runs ∙ ap (λ b. runs_left b c.go_on.new.stack.items c.go_on.new.run) c.if-not-go_on.true in
     last_turn _ (g.P.Pass.state w.pass) (g.P.Pass.state c.visit.new.self) _ _ _ _ _ h.at e
-    (walking h None _ [] e tt owed none) (c.visit.ensures.goes_on (trim h.at.root) h.at.tree h.at.due h.turn h.at.so_far)
+    (walking h None _ [] e tt (rw h.met.is tt) none) (c.visit.ensures.goes_on (trim h.at.root) h.at.tree h.at.due h.turn h.at.so_far)
 
 pub returns-then-not-go_on-clause-kept : goal.returns-then-not-go_on-clause-kept
 returns-then-not-go_on-clause-kept g c =
@@ -169,12 +167,10 @@ walk-preserved-then-leads_to_null g c =
     let on = c.go_on.ensures in
     let h = turn_here _ _ _ _ _ _ object.Null w.invariant.at on.rest on.is_rest (c.leads_to_null.ensures c.if-leads_to_null.true) in
     let e : w.end ≡ w.end + own_size h.at.tree = omega (arith, ap own_size h.met.is) in
-    let owed = subst (λ u. AreOwed (g.M.Segments.segments c.args.message.now) c.args.depth
-    (length (w.stack.items ++ option_to_list on.rest) + 1) [] (below w.end u)) (sym h.met.is) tt in
     let new = c.go_on.new in
     let same = on.runs ∙ ap (λ b. runs_left b new.stack.items new.run) c.if-not-go_on.false in record {
       at = next_run _ (g.P.Pass.state w.pass) (g.P.Pass.state c.visit.new.self) _ _ new.stack.items _ _ _ new.run h.at e
-          (walking h None _ (new.stack.items ++ new.run ∷ []) e tt owed same)
+          (walking h None _ (new.stack.items ++ new.run ∷ []) e tt (rw h.met.is tt) same)
           (c.visit.ensures.goes_on (trim h.at.root) h.at.tree h.at.due h.turn h.at.so_far);
       kept = kept_on h (g.P.Pass.kept c.visit.new.self) (g.P.Pass.kept w.pass) (g.P.Pass.kept c.args.pass.now)
           (c.visit.ensures.kept (trim h.at.root) h.at.tree h.at.due h.turn h.at.so_far) w.invariant.kept;
