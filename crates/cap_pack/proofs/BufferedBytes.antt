@@ -117,8 +117,7 @@ pub some_words : (n : ℕ) (out : List ℕ) → n ≤ length out → n % 8 ≡ 0
 some_words n out fits whole some = at_least (take n out) (let l = length-take-le n out fits in omega arith)
   where
     at_least : (xs : List ℕ) → 8 ≤ length xs → 0 < length (plain_words xs)
-    at_least (a ∷ b ∷ c ∷ d ∷ e ∷ f ∷ g ∷ h ∷ xs) l = omega arith
-    at_least _ l = absurd (omega (arith, l))
+    at_least xs l = search rules
 
 -- without bytes there are no words
 gives_nothing : (p : ℕ) (bs : List ℕ) → length bs ≡ 0 → course_words (course p 0 bs) ≡ []
@@ -163,14 +162,7 @@ words_buffered phase a b held out z p at now d is_open u small low value lost =
         (course_is_cut (ahead Open d.zeros d.plain (capped (at + length (take d.read held))) (unwrap_or b []))) at (capped (at + length (take d.read held)))
         (course_places (ahead Open z p at (unwrap_or a [])))
         (course_places (ahead Open d.zeros d.plain (capped (at + length (take d.read held))) (unwrap_or b []))) (plain_words (take d.written out))
-    go None b lost = record { consumed = tt; goes_on = tt }
-    go (Some x) None lost = absurd lost
-    go (Some x) (Some y) lost =
-        let l = u.gives at y low in
-        record {
-          consumed = ap (λ xs. course_words (ahead Open z p at xs)) lost ∙ l.words;
-          goes_on = search rules;
-        }
+    go x b lost = search rules
 
 -- words as they are, appended by a source that is open and holds no zero words
 pub words_appended : (phase : Phase) (a b : Option (List ℕ)) (held : List ℕ) (z p q n at now : ℕ) → phase ≡ Open → z ≡ 0 → p ≡ n + q →

@@ -20,9 +20,6 @@ left_shorter k f bytes a b p = omega (arith, length-drop k bytes)
 -- any number of steps above the length of the bytes is enough
 pub enough : (f g n at : ℕ) (bytes : List ℕ) → length bytes < f → length bytes < g → course_in f n at bytes ≡ course_in g n at bytes
 unfolding course_in
-enough zero g n at bytes p q = absurd (omega arith)
-enough (suc f) zero n at bytes p q = absurd (omega arith)
-enough (suc f) (suc g) zero at [] p q = refl
 enough (suc f) (suc g) zero at (tag ∷ bytes) p q =
     let l = length-drop (head_rest tag) bytes in
     search (rules, enough f g (plain_of tag bytes) (capped (at + (suc (head_rest tag)))) (drop (head_rest tag) bytes) (omega arith) (omega arith))
@@ -30,6 +27,7 @@ enough (suc f) (suc g) (suc n) at bytes p q = branches_same _ (λ t.
     ap (gives (little_number 8 bytes) (capped (at + 8)))
     (enough f g n (capped (at + 8)) (drop 8 bytes) (left_shorter 8 f bytes (lit< tt) (ltb-false (length bytes) 8 t) p)
     (left_shorter 8 g bytes (lit< tt) (ltb-false (length bytes) 8 t) q)))
+enough f g n at bytes p q = search rules
 
 -- a word as it is, and what comes after it
 pub course_plain : (n at : ℕ) (bs ys : List ℕ) → length bs ≡ 8 →

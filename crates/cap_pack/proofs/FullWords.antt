@@ -1,11 +1,10 @@
 -- The tag of eight bytes of which none is zero.
-use Rattle.cap_spec.proofs.ProofNames.{Bool, List, [], arith, false, if◌then◌else◌, length, refl, true, ℕ, ◌+◌, ◌<◌}
-use Rattle.cap_spec.proofs.ProofNames.{◌==◌, ◌∷◌, ◌≡◌, tag_of, zero_bytes, zeros_in, word_bytes, common_steps, rules}
+use Rattle.cap_spec.proofs.ProofNames.{Bool, List, [], arith, if◌then◌else◌, length, refl, ℕ, ◌+◌, ◌<◌, ◌==◌, ◌∷◌, ◌≡◌}
+use Rattle.cap_spec.proofs.ProofNames.{tag_of, zero_bytes, zeros_in, word_bytes, common_steps, rules}
 
 -- a byte is zero, or its bit is set
 one_of : (b : Bool) → (if b then 1 else 0) + (if b then 0 else 1) ≡ 1
-one_of true = refl
-one_of false = refl
+one_of x = search rules
 
 -- where all bits of the tag are set, no byte is zero
 full_from_tag : (bs : List ℕ) → length bs ≡ 8 → tag_of bs ≡ 255 → zeros_in bs ≡ 0

@@ -3,13 +3,12 @@ use Rattle.std.proofs.lemmas.List.{drop_more}
 use Rattle.cap_spec.proofs.Packed.Packing.{front-append, front-le, group_size-plain, group_size-zeros, nonzero_word}
 use Rattle.cap_spec.proofs.Packed.Packing.{pack_text-marked, pack_text-plain, pack_text-zeros, plain_full}
 use Rattle.cap_spec.proofs.Packed.Repacking.{zero_front}
-use Rattle.cap_spec.proofs.ProofNames.{Bool, List, [], ap, append-nil, append_assoc, arith, cond, drop, drop-drop, false}
+use Rattle.cap_spec.proofs.ProofNames.{Bool, List, [], ap, append-nil, append_assoc, arith, cond, drop, drop-drop}
 use Rattle.cap_spec.proofs.ProofNames.{filter, get_or, leb, length, length-append, length-drop, length-take-le, not}
-use Rattle.cap_spec.proofs.ProofNames.{refl, replicate, suc, sym, take, take-append-drop, take_all, true, ℕ}
-use Rattle.cap_spec.proofs.ProofNames.{◌++◌, ◌+◌, ◌-◌, ◌<◌, ◌==◌, ◌∙◌, ◌∷◌, ◌≡◌, ◌≢◌, ◌≤◌, length-replicate}
-use Rattle.cap_spec.proofs.ProofNames.{replicate-append-replicate, take_rest, take-put_mid, prefix_len, put_mid}
-use Rattle.cap_spec.proofs.ProofNames.{full_run, group_size, pack_text, tag_of, zero_bytes, zero_run, plain_text}
-use Rattle.cap_spec.proofs.ProofNames.{word_bytes, common_steps, rules}
+use Rattle.cap_spec.proofs.ProofNames.{refl, replicate, suc, sym, take, take-append-drop, take_all, ℕ, ◌++◌, ◌+◌, ◌-◌}
+use Rattle.cap_spec.proofs.ProofNames.{◌<◌, ◌==◌, ◌∙◌, ◌∷◌, ◌≡◌, ◌≢◌, ◌≤◌, length-replicate, replicate-append-replicate}
+use Rattle.cap_spec.proofs.ProofNames.{take_rest, take-put_mid, prefix_len, put_mid, full_run, group_size, pack_text}
+use Rattle.cap_spec.proofs.ProofNames.{tag_of, zero_bytes, zero_run, plain_text, word_bytes, common_steps, rules}
 use Rattle.cap_pack.specs.Holding.{IsRun, Encodes, first_zeros, held}
 use Rattle.cap_pack.specs.declared.group.Group.{Group}
 use Rattle.cap_pack.specs.declared.group.Group.TheVariants.{Plain}
@@ -18,8 +17,7 @@ use Rattle.cap_pack.proofs.Runs.{run, run_is}
 -- each element of the front that passes does
 passes_more : (p : ℕ → Bool) (t : Bool) (x n m : ℕ) (xs : List ℕ) → p x ≡ t → suc n ≤ cond t (1 + m) 0 → (n ≤ m → prefix_len p (take n xs) ≡ n) →
     prefix_len p (x ∷ take n xs) ≡ suc n
-passes_more p true x n m xs e h k = grind (arith, common_steps)
-passes_more p false x n m xs e h k = absurd (omega arith)
+passes_more p x u n m xs e h k = search rules
 
 front_passes : (p : ℕ → Bool) (n : ℕ) (xs : List ℕ) → n ≤ prefix_len p xs → prefix_len p (take n xs) ≡ n
 front_passes p (suc n) (x ∷ xs) h = passes_more p (p x) x n (prefix_len p xs) xs refl h (front_passes p n xs)
@@ -28,8 +26,7 @@ front_passes p n xs h = search rules
 -- what is after the front doesn't pass
 stops_more : (p : ℕ → Bool) (t : Bool) (x : ℕ) (xs ys : List ℕ) → p x ≡ t → (prefix_len p xs < length xs → prefix_len p (drop (prefix_len p xs) xs ++ ys) ≡ 0) →
     cond t (1 + prefix_len p xs) 0 < suc (length xs) → prefix_len p (drop (cond t (1 + prefix_len p xs) 0) (x ∷ xs) ++ ys) ≡ 0
-stops_more p true x xs ys e k h = grind (arith, common_steps)
-stops_more p false x xs ys e k h = ap (λ t. cond t (1 + prefix_len p (xs ++ ys)) 0) e
+stops_more p x u xs ys e k h = search rules
 
 stops_after : (p : ℕ → Bool) (xs ys : List ℕ) → prefix_len p xs < length xs → prefix_len p (drop (prefix_len p xs) xs ++ ys) ≡ 0
 stops_after p [] ys h = absurd (omega arith)

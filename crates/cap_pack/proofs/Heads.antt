@@ -10,14 +10,12 @@ use Rattle.cap_pack.specs.Course.{first_word, head_rest, plain_of, zeros_of}
 
 -- two choices are the same where both their branches are
 pub both_same : {A : Type 0} (b : Bool) {x y v w : A} → (b ≡ true → x ≡ v) → (b ≡ false → y ≡ w) → cond b x y ≡ cond b v w
-both_same true h k = h refl
-both_same false h k = k refl
+both_same x h k = search rules
 
 -- a tag has no bits for more bytes than these
 pub spread_front : (n tag : ℕ) (bs ys : List ℕ) → n ≤ length bs → spread n tag (bs ++ ys) ≡ spread n tag bs
-spread_front zero tag bs ys l = refl
-spread_front (suc n) tag [] ys l = absurd (omega arith)
 spread_front (suc n) tag (b ∷ bs) ys l = search (rules, both_same, spread_front n (tag / 2) (b ∷ bs) ys (omega arith), spread_front n (tag / 2) bs ys (omega arith))
+spread_front n tag bs ys l = search rules
 
 -- the first eight bytes are enough for a word
 pub spread_eight : (tag : ℕ) (bytes : List ℕ) → 8 ≤ length bytes → spread 8 tag (take 8 bytes) ≡ spread 8 tag bytes
@@ -38,9 +36,8 @@ little-append _ ys l = absurd (omega (arith, l))
 first_same : (zero_run plain_run : Bool) (tag : ℕ) (bs ys : List ℕ) → length bs ≡ cond zero_run 1 (cond plain_run 9 (marks 8 tag)) →
     cond zero_run 0 (cond plain_run (little_number 8 (bs ++ ys)) (spread 8 tag (bs ++ ys)))
     ≡ cond zero_run 0 (cond plain_run (little_number 8 bs) (spread 8 tag bs))
-first_same true q tag bs ys e = refl
-first_same false true tag bs ys e = little-append bs ys (omega arith)
 first_same false false tag bs ys e = spread_append 8 tag bs ys e
+first_same x q tag bs ys e = search (rules, little-append)
 
 -- what a head says uses its own bytes
 pub first_word-append : (tag : ℕ) (bs ys : List ℕ) → length bs ≡ head_rest tag → first_word tag (bs ++ ys) ≡ first_word tag bs
@@ -59,9 +56,8 @@ zeros_of-append tag bs ys e = zeros_same (eqb tag 0) (eqb tag 255) tag bs ys e
 plain_same : (zero_run plain_run : Bool) (tag : ℕ) (bs ys : List ℕ) → (zero_run ≡ true → plain_run ≡ false) →
     length bs ≡ cond zero_run 1 (cond plain_run 9 (marks 8 tag)) →
     cond plain_run (get_or (bs ++ ys) 8 0) 0 ≡ cond plain_run (get_or bs 8 0) 0
-plain_same true true tag bs ys o e = absurd (let h = o refl in cc)
 plain_same false true tag bs ys o e = get_or-append bs ys 0 8 (omega arith)
-plain_same q false tag bs ys o e = refl
+plain_same q x tag bs ys o e = search rules
 
 pub plain_of-append : (tag : ℕ) (bs ys : List ℕ) → length bs ≡ head_rest tag → plain_of tag (bs ++ ys) ≡ plain_of tag bs
 unfolding head_rest plain_of

@@ -1,8 +1,7 @@
 -- How the open group of a packer ends.
 use Rattle.cap_spec.proofs.Packed.Packing.{pack_text-plain, pack_text-zeros, plain_full}
-use Rattle.cap_spec.proofs.ProofNames.{List, Option, [], length, length-take, refl, ℕ}
-use Rattle.cap_spec.proofs.ProofNames.{◌++◌, ◌<◌, ◌≡◌, length-replicate, Appends, Keeps, append_known, full_run}
-use Rattle.cap_spec.proofs.ProofNames.{group_size, pack_text, zero_run, rules}
+use Rattle.cap_spec.proofs.ProofNames.{List, Option, [], length, length-take, refl, ℕ, ◌++◌, ◌<◌, ◌≡◌, length-replicate}
+use Rattle.cap_spec.proofs.ProofNames.{Appends, Keeps, append_known, full_run, group_size, pack_text, zero_run, rules}
 use Rattle.cap_pack.specs.Holding.{first_zeros, group_bytes, held}
 use Rattle.cap_pack.specs.declared.group.Group.{Group}
 use Rattle.cap_pack.specs.declared.group.Group.TheVariants.{Empty, Plain, Zeros}

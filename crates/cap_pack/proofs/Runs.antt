@@ -20,12 +20,10 @@ run_is p xs = length-take-le (prefix_len p xs) xs (prefix_len-le-length p xs)
 
 -- one element in front
 both_more : (t : Bool) (m n : ℕ) → m ≤ n → cond t (1 + m) 0 ≤ cond t (1 + n) 0
-both_more true m n h = omega arith
-both_more false m n h = omega arith
+both_more x m n h = search rules
 
 one_more : (t : Bool) (i m n : ℕ) → suc i ≤ cond t (1 + n) 0 → (i ≤ n → i + m ≤ n) → suc i + m ≤ cond t (1 + n) 0
-one_more true i m n h k = omega (arith, k (omega arith))
-one_more false i m n h k = absurd (omega arith)
+one_more x i m n h k = search rules
 
 -- a beginning of the list has no longer front
 within_chunk : (p : ℕ → Bool) (n : ℕ) (xs : List ℕ) → prefix_len p (take n xs) ≤ prefix_len p xs
@@ -68,8 +66,7 @@ abbrev differs : ℕ → ℕ → Bool
 differs a b = not (eqb a b)
 
 twice_not : (t : Bool) → not (not t) ≡ t
-twice_not true = refl
-twice_not false = refl
+twice_not x = search rules
 
 map_same : (xs : List ℕ) → xs ≡ map (λ x. x) xs
 map_same [] = refl
@@ -97,10 +94,7 @@ same_test false t = not t
 
 same_from_test : (s t : Bool) → same_test s t ≡ true → s ≡ t
 unfolding same_test
-same_from_test true true e = refl
-same_from_test true false e = absurd (false≢true e)
-same_from_test false true e = absurd (false≢true e)
-same_from_test false false e = refl
+same_from_test x u e = search (rules, false≢true)
 
 each_below : (ℕ → Bool) → ℕ → Bool
 each_below p zero = true
@@ -120,16 +114,13 @@ few_clear t l = same_from_test _ _ (one_below (λ t. same_test (eqb (above t) 0)
 
 -- a byte is zero, or its bit is set
 pub low_bit : (z : Bool) (t : ℕ) → (cond z 0 1 + 2 * t) % 2 ≡ cond z 0 1
-low_bit true t = omega arith
-low_bit false t = omega arith
+low_bit x t = search rules
 
 pub bits_after : (z : Bool) (t : ℕ) → (cond z 0 1 + 2 * t) / 2 ≡ t
-bits_after true t = omega arith
-bits_after false t = omega arith
+bits_after x t = search rules
 
 zero_or_set : (z : Bool) → cond z 1 0 + cond z 0 1 ≡ 1
-zero_or_set true = refl
-zero_or_set false = refl
+zero_or_set x = search rules
 
 zeros_and_marks : (bs : List ℕ) → zeros_in bs + marks (length bs) (tag_of bs) ≡ length bs
 zeros_and_marks [] = refl

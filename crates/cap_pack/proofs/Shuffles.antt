@@ -69,8 +69,7 @@ abbrev pub IsPlace : ℕ → Type 0
 IsPlace j = T (leb 128 j || ltb j 16)
 
 holds : (t : Bool) → T (t || true)
-holds true = tt
-holds false = tt
+holds x = search rules
 
 is_place : (k : ℕ) → k < 16 → IsPlace k
 is_place k h = subst (λ t. T (leb 128 k || t)) (sym (lt-ltb k 16 h)) (holds (leb 128 k))
@@ -86,8 +85,7 @@ no_places (suc n) = (tt, no_places n)
 -- the places of a row
 
 spread_place : (t : Bool) (k : ℕ) → k < 16 → IsPlace (cond t 128 k)
-spread_place true k h = tt
-spread_place false k h = is_place k h
+spread_place x k h = search rules
 
 spread_places : (n tag k : ℕ) → k + n ≤ 16 → Each1 IsPlace (spread_from n tag k)
 spread_places zero tag k h = tt
@@ -123,21 +121,18 @@ spread_by_places xs row lanes tag e f =
 
 -- zeros after the bytes change nothing
 none_either_way : (t : Bool) (x y : ℕ) → x ≡ 0 → y ≡ 0 → cond t (256 * x) (0 + 256 * y) ≡ 0
-none_either_way true x y e f = omega arith
-none_either_way false x y e f = omega arith
+none_either_way x u y e f = search rules
 
 zeros_spread : (n tag m : ℕ) → spread n tag (replicate m 0) ≡ 0
 zeros_spread (suc n) tag (suc m) = none_either_way (eqb (tag % 2) 0) _ _ (zeros_spread n (tag / 2) (suc m)) (zeros_spread n (tag / 2) m)
 zeros_spread n tag m = refl
 
 spread_with_zeros : (n tag m : ℕ) (bs : List ℕ) → spread n tag (bs ++ replicate m 0) ≡ spread n tag bs
-spread_with_zeros zero tag m bs = refl
-spread_with_zeros (suc n) tag m [] = zeros_spread (suc n) tag m
 spread_with_zeros (suc n) tag m (b ∷ bs) = search (rules, spread_with_zeros n (tag / 2) m (b ∷ bs), spread_with_zeros n (tag / 2) m bs)
+spread_with_zeros n tag m bs = search (rules, zeros_spread)
 
 clear_bit : (z : Bool) → eqb (cond z 0 1) 0 ≡ z
-clear_bit true = refl
-clear_bit false = refl
+clear_bit x = search rules
 
 -- the bytes that aren't zero
 abbrev present : List ℕ → List ℕ
@@ -148,8 +143,7 @@ marked_first z n t k = search (rules, low_bit, clear_bit, bits_after)
 
 first_picked : (z : Bool) (xs ks : List ℕ) (k b : ℕ) → pick xs k ≡ b →
     map (pick xs) (cond z [] (k ∷ []) ++ ks) ≡ cond (not z) (b ∷ map (pick xs) ks) (map (pick xs) ks)
-first_picked true xs ks k b e = refl
-first_picked false xs ks k b e = ap (λ x. x ∷ map (pick xs) ks) e
+first_picked x xs ks k b e = search rules
 
 -- the places of the bits of a tag pick the bytes that aren't zero
 marked_picked : (bs xs ys : List ℕ) (k : ℕ) → drop k xs ≡ bs ++ ys → k + length bs ≤ 128 → map (pick xs) (marked_from (length bs) (tag_of bs) k) ≡ present bs
@@ -158,8 +152,7 @@ marked_picked (b ∷ bs) xs ys k e h = search (rules, pick, picked, drop_next, m
 
 -- as many as the tag has bits set
 count_first : (z : Bool) (b : ℕ) (l : List ℕ) → length (cond (not z) (b ∷ l) l) ≡ cond z 0 1 + length l
-count_first true b l = omega arith
-count_first false b l = omega arith
+count_first x b l = search rules
 
 present_count : (bs : List ℕ) → marks (length bs) (tag_of bs) ≡ length (present bs)
 present_count [] = refl
@@ -167,8 +160,7 @@ present_count (b ∷ bs) = search (rules, low_bit, bits_after, count_first, pres
 
 -- the places of a row
 squeeze_place : (t : Bool) (k : ℕ) (ys : List ℕ) → k < 16 → Each1 IsPlace ys → Each1 IsPlace (cond t [] (k ∷ []) ++ ys)
-squeeze_place true k ys h each = each
-squeeze_place false k ys h each = (is_place k h, each)
+squeeze_place x k ys h each = search rules
 
 squeeze_places : (n tag k : ℕ) → k + n ≤ 16 → Each1 IsPlace (marked_from n tag k)
 squeeze_places zero tag k h = tt

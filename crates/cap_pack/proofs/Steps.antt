@@ -1,9 +1,9 @@
 -- What one answer of the unpacker does to what is known of it.
-use Rattle.cap_spec.proofs.ProofNames.{List, None, OnSome, Option, Some, [], ap, arith, false, option_map}
-use Rattle.cap_spec.proofs.ProofNames.{refl, suc, true, unwrap_or, zero, ℕ, ◌++◌, ◌-◌, ◌<◌, ◌∷◌, ◌≡◌, Consumes}
-use Rattle.cap_spec.proofs.ProofNames.{IsAtEnd, packed_ends, packed_is_cut, unpacked, rules}
+use Rattle.cap_spec.proofs.ProofNames.{List, None, OnSome, Option, Some, [], ap, false, option_map, refl, suc, true}
+use Rattle.cap_spec.proofs.ProofNames.{unwrap_or, zero, ℕ, ◌++◌, ◌-◌, ◌<◌, ◌∷◌, ◌≡◌, Consumes, IsAtEnd, packed_ends}
+use Rattle.cap_spec.proofs.ProofNames.{packed_is_cut, unpacked, rules}
 use Rattle.cap_words.specs.declared.ends.Phase.{Phase}
-use Rattle.cap_words.specs.declared.ends.Phase.TheVariants.{Ended, Failed, Open}
+use Rattle.cap_words.specs.declared.ends.Phase.TheVariants.{Open}
 use Rattle.cap_pack.specs.Course.{Course, course, course_is_cut, course_places, course_words, ends, gives, stops}
 use Rattle.cap_pack.specs.State.{ahead}
 use Rattle.cap_pack.proofs.Courses.{course_none}
@@ -53,11 +53,8 @@ zero_step phase z p at e q ys = search rules
 -- the input ends inside it
 pub word_cut_step : (phase : Phase) (z p at to : ℕ) (bs : List ℕ) → phase ≡ Open → z ≡ 0 → 0 < p → ((n : ℕ) → course (suc n) at bs ≡ stops to) →
     ahead phase z p at bs ≡ stops to
-word_cut_step Open (suc z) p at to bs e o q s = absurd (omega arith)
-word_cut_step Open zero zero at to bs e o q s = absurd (omega arith)
 word_cut_step Open zero (suc p) at to bs e o q s = s p
-word_cut_step Ended z p at to bs e o q s = absurd (cc)
-word_cut_step Failed z p at to bs e o q s = absurd (cc)
+word_cut_step x z p at to bs e o q s = search rules
 
 -- between groups the bytes are those of groups
 pub between : (phase : Phase) (z p at : ℕ) (bs : List ℕ) (c : Course) → phase ≡ Open → z ≡ 0 → p ≡ 0 → course 0 at bs ≡ c → ahead phase z p at bs ≡ c

@@ -3,11 +3,11 @@ use Rattle.std.proofs.lemmas.Simd.{take_more_put_chunk}
 use Rattle.std.specs.Simd.Lanes.{digits_l, put_chunk}
 use Rattle.cap_spec.proofs.Lemmas.{length_plain, bytes_back}
 use Rattle.cap_spec.proofs.Packed.Repacking.{tag_below}
-use Rattle.cap_spec.proofs.ProofNames.{Bool, List, [], ap, arith, cond, eqb, false, flat_map, if◌then◌else◌, length, map}
-use Rattle.cap_spec.proofs.ProofNames.{not, refl, replicate, suc, take, take-add, true, w8, ℕ, ◌%◌, ◌*◌, ◌++◌}
-use Rattle.cap_spec.proofs.ProofNames.{◌+◌, ◌<◌, ◌==◌, ◌∙◌, ◌∷◌, ◌≡◌, ◌≤◌, length-map, map-append, bitmask_splat}
-use Rattle.cap_spec.proofs.ProofNames.{length-chunk, AllByRecursion, Each1, chunk, mask_l, number_l, top, zip2}
-use Rattle.cap_spec.proofs.ProofNames.{little_number, tag_of, word_bytes, rules}
+use Rattle.cap_spec.proofs.ProofNames.{Bool, List, [], ap, arith, cond, eqb, flat_map, if◌then◌else◌, length, map, not}
+use Rattle.cap_spec.proofs.ProofNames.{refl, replicate, suc, take, take-add, w8, ℕ, ◌%◌, ◌*◌, ◌++◌, ◌+◌, ◌<◌, ◌==◌, ◌∙◌}
+use Rattle.cap_spec.proofs.ProofNames.{◌∷◌, ◌≡◌, ◌≤◌, length-map, map-append, bitmask_splat, length-chunk}
+use Rattle.cap_spec.proofs.ProofNames.{AllByRecursion, Each1, chunk, mask_l, number_l, top, zip2, little_number, tag_of}
+use Rattle.cap_spec.proofs.ProofNames.{word_bytes, rules}
 
 -- the tag of a word
 abbrev pub word_tag : ℕ → ℕ
@@ -27,8 +27,7 @@ lanes_are_bytes (w ∷ ws) e = eight_digits (length ws) w (number_l 184467440737
 
 -- the bits that mark the bytes that aren't zero are the tag
 one_bit : (t : Bool) (m : ℕ) → cond (not t) 1 0 + 2 * m ≡ cond t 0 1 + 2 * m
-one_bit true m = refl
-one_bit false m = refl
+one_bit x m = search rules
 
 pub mask_is_tag : (bs : List ℕ) → mask_l (map (λ b. not (eqb b 0)) bs) ≡ tag_of bs
 mask_is_tag [] = refl

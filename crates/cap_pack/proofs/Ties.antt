@@ -81,18 +81,16 @@ after_short : (k n at : ℕ) (bytes : List ℕ) → length bytes < 8 * n →
     (following k n bytes ≡ plain_words bytes) × (after_is_cut k n bytes ≡ true)
     × (after_ends k n at bytes ≡ take (length (plain_words bytes)) (word_ends at n) ++ capped (at + length bytes) ∷ [])
 unfolding following after_is_cut after_ends
-after_short k zero at bytes p = absurd (omega arith)
 after_short k (suc n) at (a ∷ b ∷ c ∷ d ∷ e ∷ f ∷ g ∷ h ∷ rest) p = search (rules, after_short k n (at + 8) rest (omega arith))
-after_short k (suc n) at bytes p = (refl, refl, refl)
+after_short k n at bytes p = search rules
 
 -- they are all there
 after_long : (k n at : ℕ) (bytes : List ℕ) → 8 * n ≤ length bytes →
     (following k n bytes ≡ plain_words (take (8 * n) bytes) ++ given_in k (drop (8 * n) bytes)) × (after_is_cut k n bytes ≡ is_cut_in k (drop (8 * n) bytes))
     × (after_ends k n at bytes ≡ word_ends at n ++ ends_in k (at + 8 * n) (drop (8 * n) bytes))
 unfolding following after_is_cut after_ends
-after_long k zero at bytes p = let here : at ≡ at + 8 * 0 = omega arith in (refl, refl, ap (λ p. ends_in k p bytes) here)
 after_long k (suc n) at (a ∷ b ∷ c ∷ d ∷ e ∷ f ∷ g ∷ h ∷ rest) p = search (rules, eight_more n, after_long k n (at + 8) rest (omega arith))
-after_long k (suc n) at bytes p = absurd (omega (arith, p))
+after_long k n at bytes p = search rules
 
 -- What is shown of all short bytes holds after words as they are, too.
 Reported : ℕ → Type 0
@@ -101,10 +99,9 @@ Reported k = (at : ℕ) (bytes : List ℕ) → length bytes ≤ k → Reports (c
 plain_reported : (k : ℕ) → Reported k → (n at : ℕ) (bytes : List ℕ) → length bytes ≤ k →
     Reports (course n (capped at) bytes) (following k n bytes) (after_is_cut k n bytes) (after_ends k n at bytes)
 unfolding following after_is_cut after_ends Reported
-plain_reported k t zero at bytes p = t at bytes p
 plain_reported k t (suc n) at (a ∷ b ∷ c ∷ d ∷ e ∷ f ∷ g ∷ h ∷ rest) p =
     reports_along (plain_after n at (a ∷ b ∷ c ∷ d ∷ e ∷ f ∷ g ∷ h ∷ []) rest refl) refl refl refl (reports_one _ _ (plain_reported k t n (at + 8) rest (omega arith)))
-plain_reported k t (suc n) at bytes p = reports_along (course_plain_stops n (capped at) bytes (omega arith)) refl refl refl (reports_stop at (length bytes))
+plain_reported k t n at bytes p = search (rules, reports_along, course_plain_stops, reports_stop)
 
 -- the three kinds of groups
 zeros_reported : (k : ℕ) → Reported k → (at : ℕ) (bytes : List ℕ) → length bytes ≤ k →
@@ -193,13 +190,11 @@ marked_reported k t at tag bytes z o p =
 reported : (k : ℕ) → Reported k
 unfolding Reported
 reported zero at [] p = reports_along (course_none (capped at)) refl refl refl (record { words = refl; cut = refl; ends = refl })
-reported zero at (tag ∷ bytes) p = absurd (omega arith)
-reported (suc k) at [] p =
-    reports_along (course_none (capped at)) (given_nil k) (cut_nil k) (ends_nil (suc k) at) (record { words = refl; cut = refl; ends = refl })
 reported (suc k) at (tag ∷ bytes) p = ⊎_elim
     (λ z. rw z (zeros_reported k (reported k) at bytes (omega arith)))
     (λ z. ⊎_elim (λ o. rw o (plain_run_reported k (reported k) at bytes (omega arith))) (λ o. marked_reported k (reported k) at tag bytes z o (omega arith)) (cases_eq tag 255))
     (cases_eq tag 0)
+reported k at bytes p = search (rules, reports_along, course_none, given_nil, cut_nil, ends_nil)
 
 pub course_reports : (at : ℕ) (bytes : List ℕ) → (course_words (course 0 (capped at) bytes) ≡ unpacked bytes)
     × (course_is_cut (course 0 (capped at) bytes) ≡ packed_is_cut bytes) × (course_places (course 0 (capped at) bytes) ≡ packed_ends at bytes)

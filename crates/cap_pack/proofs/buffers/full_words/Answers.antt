@@ -1,7 +1,6 @@
 -- One more word with at most one zero byte, another word, and as many as there may be.
 use Rattle.cap_spec.proofs.Lemmas.{words_exact, front-le}
-use Rattle.cap_spec.proofs.ProofNames.{ap, arith, le-leb, leb, ◌≡◌, lt-leb, full_run, zero_bytes, plain_words}
-use Rattle.cap_spec.proofs.ProofNames.{rules}
+use Rattle.cap_spec.proofs.ProofNames.{ap, arith, le-leb, leb, ◌≡◌, lt-leb, full_run, zero_bytes, plain_words, rules}
 use Rattle.cap_pack.proofs.Runs.{run_ends, run_more}
 use Rattle.cap_pack.proofs.buffers.full_words.Goals as goal
 
