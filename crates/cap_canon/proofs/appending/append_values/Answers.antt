@@ -1,5 +1,5 @@
-use Rattle.cap_spec.proofs.ProofNames.{List, [], ap, append_assoc, arith, subst, sym, ℕ, ◌++◌, ◌+◌, ◌-◌, ◌∙◌, ◌∷◌, ◌≡◌}
-use Rattle.cap_spec.proofs.ProofNames.{AllByRecursion, words_from, list_words, IsWord}
+use Rattle.cap_spec.proofs.ProofNames.{List, [], ap, append_assoc, arith, subst, ℕ, ◌+◌, ◌-◌, ◌∙◌, ◌∷◌, ◌≡◌}
+use Rattle.cap_spec.proofs.ProofNames.{AllByRecursion, words_from, list_words, IsWord, rules}
 use Rattle.cap_canon.proofs.Ranges.{all_front, range_more, values_laid}
 use Rattle.cap_canon.proofs.appending.append_values.Goals as goal
 
@@ -14,9 +14,7 @@ returns-then-kept-last-clause-words g c =
     let are = all_front IsWord front (last ∷ []) (subst (λ (xs : List ℕ). AllByRecursion IsWord xs) row c.append_row.ensures.are_words) in
     let some : list_words c.args.code c.args.count ≡ before + 1 = omega (arith, c.requires.words, c.if-words-eq0.false) in
     let laid = values_laid m c.args.segment c.args.start c.args.code c.args.count before last c.requires.code some
-    (omega (arith, c.requires.inside, c.if-words-eq0.false)) are c.word-last.ensures in
-    let same = ap (λ x. front ++ x ∷ []) (sym c.if-kept-last.true ∙ c.last_word-kept.ensures before some) in
-    c.append_row.ensures.words ∙ ap (λ xs. g.T.CopyOutput.words c.args.copy.now ++ xs) (row ∙ (same ∙ sym laid))
+    (omega (arith, c.requires.inside, c.if-words-eq0.false)) are c.word-last.ensures in search rules
 
 pub returns-clause-words : goal.returns-clause-words
 returns-clause-words g c =
@@ -25,7 +23,4 @@ returns-clause-words g c =
     let some : list_words c.args.code c.args.count ≡ before + 1 = omega (arith, c.requires.words, c.if-words-eq0.false) in
     let laid = values_laid m c.args.segment c.args.start c.args.code c.args.count before c.word-last.result c.requires.code some
     (omega (arith, c.requires.inside, c.if-words-eq0.false)) c.append_row-2.ensures.are_words c.word-last.ensures in
-    c.push.ensures.words ∙ (ap (λ xs. xs ++ c.last_word-kept.result ∷ []) c.append_row-2.ensures.words
-    ∙ (append_assoc (g.T.CopyOutput.words c.args.copy.now) (words_from m c.args.segment c.args.start before) (c.last_word-kept.result ∷ [])
-    ∙ ap (λ xs. g.T.CopyOutput.words c.args.copy.now ++ xs) (ap (λ x. words_from m c.args.segment c.args.start before ++ x ∷ []) (c.last_word-kept.ensures before some)
-    ∙ sym laid)))
+    search (rules, append_assoc)

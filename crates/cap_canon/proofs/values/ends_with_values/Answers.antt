@@ -1,5 +1,5 @@
 use Rattle.cap_spec.proofs.ProofNames.{arith, eq-eqb, eqb-true, length, refl, sym, ◌%◌, ◌*◌, ◌+◌, ◌-◌, ◌<◌, ◌∙◌, ◌≡◌}
-use Rattle.cap_spec.proofs.ProofNames.{◌≢◌, segment_of, element_bits, list_words}
+use Rattle.cap_spec.proofs.ProofNames.{◌≢◌, segment_of, element_bits, list_words, rules}
 use Rattle.cap_canon.proofs.Rests.{rest_words, values_full}
 use Rattle.cap_canon.proofs.LaidObjects.{range_words, lie_values, values_lie}
 use Rattle.cap_canon.proofs.values.ends_with_values.Goals as goal
@@ -21,9 +21,5 @@ returns g c =
     let last = c.word-last.result in
     let kept = c.last_word.ensures before many in
     let inside : c.args.start + before < length (segment_of m 0) = omega (arith, c.requires.inside, c.requires.words, some) in
-    let words = range_words m 0 c.args.start before (λ k lt. c.read_range.ensures k (omega (arith, lt))) in (
-      λ h. values_lie m 0 c.args.start c.args.code c.args.count before last c.requires.code many inside words c.word-last.ensures
-          (eqb-true last c.last_word.result h ∙ kept),
-      λ st. eq-eqb last c.last_word.result
-          (lie_values m 0 c.args.start c.args.code c.args.count before last c.requires.code many inside words c.word-last.ensures st ∙ sym kept),
-    )
+    let words = range_words m 0 c.args.start before (λ k lt. c.read_range.ensures k (omega (arith, lt))) in
+    search (rules, values_lie, eqb-true, eq-eqb, lie_values)
