@@ -5,12 +5,8 @@ ghost use Rattle.std.specs.List.{AllByRecursion};
 ghost use Rattle.std.specs.Prelude.{◌*◌, ◌+◌, ◌++◌, ◌<◌, ◌≡◌, ◌≤◌, length, replicate, take};
 ghost use Rattle.std.specs.Vec.{vec_capacity, vec_len};
 
-use super::head::{head_len, head_of};
+use super::head::{LONGEST_HEAD, head_len, head_of};
 use cap_words::bytes_of;
-
-// The bytes that are to be buffered for a group: its tag, and as many as a head may have after
-// that.
-const HEAD: usize = 10;
 
 // The bytes of a few words, which are written at once if the buffer has space. A run of no more of
 // them is no call then.
@@ -159,7 +155,7 @@ pub(crate) fn unpack(from: &[u8], out: &mut [u8], zeros: u8, plain: u8) -> Unpac
     let mut done = run(from, out, zeros, plain);
     while done.zeros == 0
         && done.plain == 0
-        && from.len() - done.read >= HEAD
+        && from.len() - done.read >= LONGEST_HEAD
         && out.len() - done.written >= 8
     {
         let next = group(&from[done.read..], &mut out[done.written..]);

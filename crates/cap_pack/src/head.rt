@@ -7,6 +7,9 @@ ghost use Rattle.std.specs.Prelude.{◌<◌, ◌≡◌, ◌≤◌, IfNone, IfSom
 use super::lanes::scatter;
 use byteorder::{ByteOrder, LittleEndian};
 
+/// The most bytes that a head has, with its tag.
+pub(crate) const LONGEST_HEAD: usize = 10;
+
 /// What the head of a group says.
 #[derive(Clone, Copy)]
 pub struct Head {

@@ -2,7 +2,7 @@ use Rattle.std.proofs.Common.{arith, get_or, length, ℕ, ◌∙◌, ◌≡◌}
 use Rattle.cap_pack.specs.Course.{head_rest}
 use Rattle.cap_pack.proofs.Heads.{first_word-append, front_of_nine, plain_of-append, zeros_of-append}
 use Rattle.cap_pack.proofs.Turns.{group_cut, group_taken, head_taken}
-use Rattle.cap_pack.proofs.reads.read_head.Goals as goal
+use Rattle.cap_pack.proofs.reads.read_split_head.Goals as goal
 
 pub returns-in-Ok-read_whole-clause-head : goal.returns-in-Ok-read_whole-clause-head
 returns-in-Ok-read_whole-clause-head g c =
