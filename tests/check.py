@@ -36,9 +36,10 @@ LOUD = re.compile(r"\b(error|warning)\b|cannot be applied")
 QUIET = re.compile(r".*: proved$|(statements|library|crate|logic |axioms|by-macro)|.*(has a line that is not read|large solution)")
 
 
-def rt(folder, *words):
-    """Runs `rt` in a folder, and shows what matters of what it writes. Whether it ended well."""
-    ran = subprocess.run(["rt", *words], cwd=folder, stdin=subprocess.DEVNULL, stdout=subprocess.PIPE, stderr=subprocess.STDOUT,
+def rt(folder, *words, beside=False):
+    """Runs `rt` in a folder, with less priority if it works beside others, and shows what matters of what it writes. Whether it
+    ended well."""
+    ran = subprocess.run(["nice"] * beside + ["rt", *words], cwd=folder, stdin=subprocess.DEVNULL, stdout=subprocess.PIPE, stderr=subprocess.STDOUT,
                          text=True, errors="replace")
     for line in ran.stdout.splitlines():
         if not QUIET.match(line) if ran.returncode else LOUD.search(line):

@@ -13,6 +13,7 @@ With --edits `rt ci` does the work on a copy of the tree, and proves the tests t
 was proved, since `rt ci` doesn't look at why an edit is refused. Both take from earlier runs on this machine what has read the
 same, and with --anew nothing. The last line of the output is 'N passed, M failed'. The status is 1 where something failed, and then build/ stays as it was.
 """
+import fcntl
 import hashlib
 import os
 import re
@@ -21,7 +22,8 @@ import subprocess
 import sys
 import tempfile
 import time
-from concurrent.futures import ThreadPoolExecutor
+from concurrent.futures import FIRST_COMPLETED, ThreadPoolExecutor, wait
+from contextlib import contextmanager
 from pathlib import Path
 
 TOP = Path(__file__).resolve().parent.parent
@@ -31,7 +33,8 @@ import targets  # noqa: E402 (it is in the folder that the line above names)
 KIT = Path(shutil.which("rt") or "/").resolve().parent.parent
 BUILT = TOP / "build"
 PROGRAM, ARCHIVE = Path("crates/capvet/out/capvet"), Path("crates/capvet_c/out/libcapvet_c.a")
-CORES = str(len(os.sched_getaffinity(0)))
+CORES = len(os.sched_getaffinity(0))
+EACH = 600
 HANDLES = "Handles allowed: none.\n"
 # What is called of the C library for a thread, for a socket, or for another program.
 BEYOND = re.compile(r"pthread_create|thrd_create|socket|socketpair|bind|connect|listen|accept4?|getaddrinfo|epoll_\w+|eventfd|"
@@ -45,9 +48,12 @@ def crates(root=TOP):
     return {name: uses for name, *uses in words}
 
 
-def rt(folder, *words):
-    """Runs `rt` in a folder. Whether it ended well."""
-    return subprocess.run(["rt", *words], cwd=folder, stdin=subprocess.DEVNULL).returncode == 0
+def rt(folder, *words, beside=False):
+    """Runs `rt` in a folder, with less priority if it works beside others, and shows what it wrote. Whether it ended well."""
+    ran = subprocess.run(["nice"] * beside + ["rt", *words], cwd=folder, stdin=subprocess.DEVNULL, stdout=subprocess.PIPE,
+                         stderr=subprocess.STDOUT, text=True, errors="replace")
+    print(ran.stdout, end="")
+    return ran.returncode == 0
 
 
 def calls_beyond(file):
@@ -86,18 +92,82 @@ def has_tests(name):
     return any("#[test]" in file.read_text() for file in (TOP / "crates" / name).glob("src/**/*.rt"))
 
 
-def prove(name, rt=rt):
+def chains(names):
+    """For each of these crates how long the longest chain of crates takes that begins with it, each used by the next. This is in
+    lines of code. A crate takes as long as EACH lines more, since `rt` reads the libraries first."""
+    known, lines = crates(), {}
+    for name in reversed([it for it in known if it in names]):
+        own = EACH + sum(file.read_bytes().count(b"\n") for file in (TOP / "crates" / name).glob("src/**/*.rt"))
+        lines[name] = own + max((lines[it] for it in lines if name in known[it]), default=0)
+    return lines
+
+
+@contextmanager
+def copy_apart(name):
+    """A copy of a crate and of those below it, with what `rt` has built of them, and of this crate with all that it has kept.
+    Files that stay as they are are links."""
+    used, folder = below([name]), TOP / "crates" / name
+    BUILT.mkdir(exist_ok=True)
+    with tempfile.TemporaryDirectory(prefix="proof-", dir=BUILT) as copied, open_locked(folder):
+        root = Path(copied)
+        for it in used:
+            left_out = ("must-fail", "incremental") if it != name else ("must-fail", "out")
+            shutil.copytree(TOP / "crates" / it, root / "crates" / it, copy_function=os.link, ignore=lambda *_, it=left_out: it)
+        lines = (TOP / "crates.txt").read_text().splitlines(keepends=True)
+        (root / "crates.txt").write_text("".join(line for line in lines if re.split(r"[\s:]", line)[0] in used))
+        (folder / "out").mkdir(exist_ok=True)
+        (folder / "out").rename(root / "crates" / name / "out")
+        try:
+            yield root / "crates" / name
+        finally:
+            (root / "crates" / name / "out").rename(folder / "out")
+
+
+@contextmanager
+def open_locked(folder):
+    """Waits until no `rt` works in a folder, and lets none begin meanwhile."""
+    held = os.open(folder, os.O_RDONLY)
+    try:
+        fcntl.flock(held, fcntl.LOCK_EX)
+        yield
+    finally:
+        os.close(held)
+
+
+def prove(name, rt, beside):
     """Proves a crate over those below it, and builds what the crates above need of it. Of the program the stored run is compared."""
-    begin, folder = time.monotonic(), TOP / "crates" / name
-    # (`rt` works in one crate at a time, and in those below it. So each crate gets all cores)
-    is_proved = rt(folder, *(["all", "test"] if (folder / "src/main.rt").exists() else ["lib"]), "--jobs", CORES)
+    begin = time.monotonic()
+    # (`rt` works in one crate at a time, and in those below it. So each crate is proved in a copy)
+    with copy_apart(name) as folder:
+        words = ["all", "test"] if (folder / "src/main.rt").exists() else ["lib"]
+        is_proved = rt(folder, *words, "--jobs", f"{max(CORES // 2, 1) if beside else CORES}", beside=beside)
     print(f"{name} took {time.monotonic() - begin:.0f} s")
     return is_proved
 
 
+def prove_crates(names, rt):
+    """Proves these crates side by side, each once those below it are proved. The crate that begins the longest chain gets all cores,
+    and others what it leaves of them. Whether all are proved."""
+    known, lines, left, running = crates(), chains(names), set(names), {}
+    with ThreadPoolExecutor(CORES) as cores:
+        while left or running:
+            unproved = left | set(running.values())
+            ready = sorted((name for name in left if not unproved & set(known[name])), key=lambda name: -lines[name])
+            for name in ready[:CORES - len(running)]:
+                left.remove(name)
+                beside = lines[name] < max(lines[it] for it in unproved)
+                running[cores.submit(prove, name, rt, beside)] = name
+            for it in wait(running, return_when=FIRST_COMPLETED).done:
+                del running[it]
+                if not it.result():
+                    wait(running)
+                    return False
+    return True
+
+
 def run_tests(name):
     """Runs the tests of a crate, and proves nothing. Whether they pass, and there are some."""
-    ran = subprocess.run(["rt", "try", "--test", "--seconds", "600"], cwd=TOP / "crates" / name, stdin=subprocess.DEVNULL,
+    ran = subprocess.run(["nice", "rt", "try", "--test", "--seconds", "600"], cwd=TOP / "crates" / name, stdin=subprocess.DEVNULL,
                          stdout=subprocess.PIPE, stderr=subprocess.STDOUT, text=True, errors="replace")
     counted = re.search(r"(?m)^tests: (\d+)$", ran.stdout)
     passed = ran.returncode == 0 and counted is not None and int(counted[1]) > 0
@@ -113,10 +183,10 @@ def has_layout(names):
 
 
 def prove_each(names, tests, rt=rt):
-    """Proves these crates one by one, and beside that runs the tests of others. Whether all passed."""
+    """Proves these crates, and beside that runs the tests of others. Whether all passed."""
     with ThreadPoolExecutor(1) as beside:
         running = [beside.submit(run_tests, name) for name in tests]
-        if not all(prove(name, rt) for name in names):
+        if not prove_crates(names, rt):
             beside.shutdown(cancel_futures=True)
             return False
     return all(it.result() for it in running)
