@@ -4,9 +4,8 @@
     edits.py [--proved ROOT] [--anew] [CRATE | EDIT ...]
 
 With no words it tries the edits of every crate, else those of the crates and files that are named, as cap_vet or
-crates/cap_vet/must-fail/NAME.edit. The libraries that a crate uses have to be proved already, as `rt lib` in the folder of each
-or `rt check` in the folder of the crate leaves them. With --proved these are below ROOT, a copy of the tree. Each edit is tried
-on a copy of its crate.
+crates/cap_vet/must-fail/NAME.edit. It first proves what has changed of the libraries that these crates use. With --proved all
+are proved already below ROOT, a copy of the tree. Each edit is tried on a copy of its crate.
 
 A refusal alone shows little, since a right body is refused too if the written proofs no longer fit it. So the whole output of
 the prover is judged. An edit is bad
@@ -19,7 +18,7 @@ the prover is judged. An edit is bad
 So an edit changes one value, and keeps branches and names.
 
 What was refused is kept on this machine, in ~/.cache/capvet/edits or below XDG_CACHE_HOME. It is kept by the checksum of all that
-the try read: see `inputs`. A later run, in any checkout, tries only the others. A line says how many it took from there. With
+the try depends on: see `inputs`. A later run, in any checkout, tries only the others. A line says how many it took from there. With
 --anew it tries all. The last line is 'N passed, M failed', and the status is 1 if one failed.
 """
 import argparse
@@ -164,9 +163,9 @@ def files_of(folder):
 
 
 def inputs(crate, name, edit):
-    """All that the try of an edit of this name and text reads, each part with a name: the prover, and of the crate and those
-    below it the rows of crates.txt and the files. A library has the checksum of its files in `format`. The work that a check kept
-    decides nothing: the prover looks at each part of it again."""
+    """All that the try of an edit of this name and text depends on, each part with a name: the prover, and of the crate and those
+    below it the rows of crates.txt and the files. Built libraries are made of these, so it doesn't matter who built them. Nor does
+    the work that a check kept: the prover looks at each part of it again."""
     rows = rows_of(crate)
     yield "kit", kit().encode()
     # (what prove.py gives is the kit and the rows)
@@ -176,9 +175,6 @@ def inputs(crate, name, edit):
         yield f"row of {it}", " ".join(uses).encode()
         folder = crate.parent / it
         yield from ((f"{it}/{file.relative_to(folder)}", file.read_bytes()) for part in PARTS for file in files_of(folder / part))
-        if it != crate.name:
-            library = folder / f"out/rlib/{it}.rlib/format"
-            yield f"library {it}", library.read_bytes() if library.is_file() else b""
 
 
 def checksum(parts):
@@ -252,13 +248,18 @@ def edits(given):
 def main(given):
     """Tries the edits, the crates side by side."""
     parser = argparse.ArgumentParser(usage=__doc__)
-    parser.add_argument("--proved", type=Path, default=prove.TOP)
+    parser.add_argument("--proved", type=Path)
     parser.add_argument("--anew", action="store_true")
     parser.add_argument("names", nargs="*")
     asked = parser.parse_args(given)
     pairs = edits([str(Path(word).resolve()) if word.endswith(".edit") else word for word in asked.names])
+    known = prove.crates()
+    if not asked.proved and not prove.prove_crates(prove.below({it for name, _ in pairs for it in known[name] if it in known}), prove.rt):
+        print("0 passed, 1 failed")
+        return 1
+    root = asked.proved or prove.TOP
     with ThreadPoolExecutor(len(os.sched_getaffinity(0))) as cores:
-        found = list(cores.map(lambda pair: try_edits(asked.proved / "crates" / pair[0], pair[1], asked.anew), pairs))
+        found = list(cores.map(lambda pair: try_edits(root / "crates" / pair[0], pair[1], asked.anew), pairs))
     passed, known, all_of_them = sum(it[0] for it in found), sum(it[1] for it in found), sum(len(files) for _, files in pairs)
     if known:
         print(f"edits: {known} of {all_of_them} were refused by an earlier run on this machine, which read the same: --anew tries them too")

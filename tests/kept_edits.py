@@ -15,13 +15,12 @@ from harness import compare, ended, expect
 from needs import missing
 
 EDIT = "file: src/lib.rt\nold: one\nnew: two\n"
-# The tree's crates.txt, the files that the try of an edit of `middle` reads, and those that it doesn't.
+# The tree's crates.txt, the files that the try of an edit of `middle` depends on, and others.
 ROWS = "low:\nmiddle: low\nhigh: middle\n"
-READ = {**{f"crates/{name}/{part}": f"one fn of {name}\n" for name in ("low", "middle")
-           for part in ("src/lib.rt", "src/deeper/more.rt", "specs/Lib.antt", "proofs/Lib.antt", "proofs/deeper/Answers.antt")},
-        "crates/low/out/rlib/low.rlib/format": "sum 1\n"}
+READ = {f"crates/{name}/{part}": f"one fn of {name}\n" for name in ("low", "middle")
+        for part in ("src/lib.rt", "src/deeper/more.rt", "specs/Lib.antt", "proofs/Lib.antt", "proofs/deeper/Answers.antt")}
 UNREAD = {"README.md": "", "crates/high/src/lib.rt": "one\n", "crates/low/README.md": "", "crates/middle/must-fail/other.edit": EDIT,
-          "crates/middle/out/incremental/work": "", "crates/low/out/low.stamp": ""}
+          "crates/middle/out/incremental/work": "", "crates/low/out/rlib/low.rlib/format": "sum 1\n"}
 REFUSED = "src/lib.rt:1:1: error: `returns`: it doesn't hold\nfn one: not proved\nlogic=not-proved\n", 1
 
 
