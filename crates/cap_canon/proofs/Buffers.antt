@@ -11,19 +11,19 @@ use Rattle.cap_canon.proofs.FirstWords.{first_words_count}
 use Rattle.cap_spec.specs.declared.CanonFault.TheVariants as canon
 
 -- one thing is reported
-pub one_buffer : (m : List (List ℕ)) (old : List ℕ) (a b : Result ℕ BufferFault) (xs ys : List ℕ) → ReportsBuffer m old a xs → ReportsBuffer m old b ys
+pub one_buffer : {m : List (List ℕ)} {old : List ℕ} {a b : Result ℕ BufferFault} {xs ys : List ℕ} → ReportsBuffer m old a xs → ReportsBuffer m old b ys
     → (a ≡ b) × (xs ≡ ys)
-one_buffer m old a b xs ys (has_capability s w f e g) (has_capability t x h i j) =
+one_buffer {m} (has_capability s w f e g) (has_capability t x h i j) =
     search (rules, one_first_cap m s w t x f h)
-one_buffer m old a b xs ys (has_capability s w f e g) (too_small us h l i j) = absurd (cap_no_copy m s w us f h)
-one_buffer m old a b xs ys (has_capability s w f e g) (written us h l i j) = absurd (cap_no_copy m s w us f h)
-one_buffer m old a b xs ys (too_small ws h l i j) (has_capability s w f e g) = absurd (cap_no_copy m s w ws f h)
-one_buffer m old a b xs ys (written ws h l i j) (has_capability s w f e g) = absurd (cap_no_copy m s w ws f h)
-one_buffer m old a b xs ys (too_small ws h l e g) (too_small us k n i j) = search (rules, one_copy m ws us h k)
-one_buffer m old a b xs ys (written ws h l e g) (written us k n i j) =
+one_buffer {m} (has_capability s w f e g) (too_small us h l i j) = absurd (cap_no_copy m s w us f h)
+one_buffer {m} (has_capability s w f e g) (written us h l i j) = absurd (cap_no_copy m s w us f h)
+one_buffer {m} (too_small ws h l i j) (has_capability s w f e g) = absurd (cap_no_copy m s w ws f h)
+one_buffer {m} (written ws h l i j) (has_capability s w f e g) = absurd (cap_no_copy m s w ws f h)
+one_buffer {m} (too_small ws h l e g) (too_small us k n i j) = search (rules, one_copy m ws us h k)
+one_buffer {m} (written ws h l e g) (written us k n i j) =
     let same = one_copy m ws us h k in search rules
-one_buffer m old a b xs ys (too_small ws h l e g) (written us k n i j) = search (rules, one_copy m ws us h k)
-one_buffer m old a b xs ys (written ws h l e g) (too_small us k n i j) = search (rules, one_copy m ws us h k)
+one_buffer {m} (too_small ws h l e g) (written us k n i j) = search (rules, one_copy m ws us h k)
+one_buffer {m} (written ws h l e g) (too_small us k n i j) = search (rules, one_copy m ws us h k)
 
 -- the words that were written are the first this many
 pub counted : (count : ℕ) (bytes words : List ℕ) → 8 * count ≤ length bytes → first_words count bytes ≡ words → first_words (length words) bytes ≡ words

@@ -34,12 +34,12 @@ pub copy_charged : (m : List (List ℕ)) (t : Tree) (c d : ℕ) (words : List �
 copy_charged m t c d words h k = search (rules, one_tree, layout_charged)
 
 -- it has as many words as the layout
-pub copy_length : (m : List (List ℕ)) (words : List ℕ) (t : Tree) (c d : ℕ) → HasCopy m words → Denotes m 0 0 t c d → length words ≡ length (layout (trim t))
-copy_length m words t c d k h = search (rules, one_tree)
+pub copy_length : {m : List (List ℕ)} {words : List ℕ} (t : Tree) (c d : ℕ) → HasCopy m words → Denotes m 0 0 t c d → length words ≡ length (layout (trim t))
+copy_length t c d k h = search (rules, one_tree)
 
 -- the charge of an accepted message is below the greatest of an offset
-pub few_charged : (m : List (List ℕ)) (r : Report) (t u : Tree) (c d : ℕ) → IsReport m 268435456 256 r t → Denotes m 0 0 u c d → c < 2 ^ 29
-few_charged m r t u c d k h = search (rules, one_tree)
+pub few_charged : {m : List (List ℕ)} {r : Report} {t : Tree} (u : Tree) (c d : ℕ) → IsReport m 268435456 256 r t → Denotes m 0 0 u c d → c < 2 ^ 29
+few_charged u c d k h = search (rules, one_tree)
 
 -- words that are the layout of every tree that is denoted are the copy
 pub copy_of : (m : List (List ℕ)) (words made : List ℕ) → HasCopy m words → ((t : Tree) (c d : ℕ) → Denotes m 0 0 t c d → made ≡ layout (trim t))

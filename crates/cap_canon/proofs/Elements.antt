@@ -61,10 +61,10 @@ pub record Buffered (m : List (List ℕ)) (s start at ds ps count i most : ℕ) 
   pub parts : FirstElement m s at ds ps (count - i) words children later charge depth
   pub same : max most (max (children_needed children) (children_of later)) ≡ children_of all
 
-pub buffered : (m : List (List ℕ)) (s start at ds ps count i most : ℕ) (es : Trees) (c d : ℕ) → i < count → ChildrenSeen m s start at ds ps count i most
+pub buffered : {m : List (List ℕ)} {s start at ds ps count i most : ℕ} {es : Trees} (c d : ℕ) → i < count → ChildrenSeen m s start at ds ps count i most
     → AreElements m s start ds ps count es c d
     → Buffered m s start at ds ps count i most es
-buffered m s start at ds ps count i most es c d lt k h = go r.0 r.1 r.2 r.3 r.4
+buffered {m} {s} {start} {at} {ds} {ps} {count} {i} {most} {es} c d lt k h = go r.0 r.1 r.2 r.3 r.4
   where
     r : (fs : Trees) × (c' d' : ℕ) × AreElements m s at ds ps (count - i) fs c' d' × (max most (children_of fs) ≡ children_of es)
     r = k.rest es c d h
@@ -86,7 +86,7 @@ children_seen m s start at ds ps count i most now lt is within k = record {
     rest : (es : Trees) (c d : ℕ) → AreElements m s start ds ps count es c d
         → (fs : Trees) × (c' d' : ℕ) × AreElements m s (at + (ds + ps)) ds ps (count - (i + 1)) fs c' d' × (max now (children_of fs) ≡ children_of es)
     rest es c d h =
-        let a = buffered m s start at ds ps count i most es c d lt k h in
+        let a = buffered c d lt k h in
         let p = a.parts in
         let e : at + ds + ps ≡ at + (ds + ps) = omega arith in
         let n : p.others ≡ count - (i + 1) = omega (arith, p.many, lt) in search (rules, most_on)

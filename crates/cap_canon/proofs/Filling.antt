@@ -60,9 +60,9 @@ elements_fill m whole deep t b c ds ps d p (more (struct ws us) es) hd hp h a at
 elements_fill m whole deep t b c ds ps d p es hd hp h a at k lt = search rules
 
 -- what is left of a struct
-pub struct_appended : (m : List (List ℕ)) (deep s w : ℕ) (u : Tree) (x : Part) (old new : List ℕ) → IsStructObject m deep s w u x
+pub struct_appended : {m : List (List ℕ)} {deep s w : ℕ} {u : Tree} {x : Part} {old new : List ℕ} → IsStructObject m deep s w u x
     → new ≡ old ++ part_words m x → OwnAppended old new u
-struct_appended m deep s w u x old new h e =
+struct_appended {m = m} {x = x} {old = old} {new = new} h e =
     let y = range_length m x.segment x.start x.data_left (omega (arith, h.fewer, h.found.inside)) in
     let z = range_length m x.segment (x.start + x.data_words) x.pointers_left (omega (arith, h.fewer, h.found.inside)) in
     let l : length h.words ≡ x.data_left = ap length h.data_words ∙ y in
@@ -78,17 +78,17 @@ struct_appended m deep s w u x old new h e =
     subst (λ (v : Tree). OwnAppended old new v) (sym h.tree) own
 
 -- a list of values
-pub scalars_size : (m : List (List ℕ)) (s w : ℕ) (u : Tree) {t b c n words : ℕ} → IsScalarsObject m s w u t b c n words → own_size u ≡ words
-scalars_size m s w u h = search (rules, length-map-range_with_len)
+pub scalars_size : {m : List (List ℕ)} {s w : ℕ} {u : Tree} {t b c n words : ℕ} → IsScalarsObject m s w u t b c n words → own_size u ≡ words
+scalars_size h = search (rules, length-map-range_with_len)
 
-pub scalars_appended : (m : List (List ℕ)) (s w : ℕ) (u : Tree) (t b c n words : ℕ) (old new : List ℕ) → IsScalarsObject m s w u t b c n words
+pub scalars_appended : {m : List (List ℕ)} {s w : ℕ} {u : Tree} {t b c n words : ℕ} {old new : List ℕ} → IsScalarsObject m s w u t b c n words
     → new ≡ old ++ scalar_words c (values_of m t b c n) → OwnAppended old new u
-scalars_appended m s w u t b c n words old new h e = search (rules, length-scalar_words, fills_lie)
+scalars_appended h e = search (rules, length-scalar_words, fills_lie)
 
 -- a list of pointers
-pub pointers_appended : (m : List (List ℕ)) (deep s w : ℕ) (u : Tree) (t b n : ℕ) (old new : List ℕ) → IsPointersObject m deep s w u t b n
+pub pointers_appended : {m : List (List ℕ)} {deep s w : ℕ} {u : Tree} {t b n : ℕ} {old new : List ℕ} → IsPointersObject m deep s w u t b n
     → new ≡ old ++ words_from m t b n → OwnAppended old new u
-pointers_appended m deep s w u t b n old new h e = search (rules, range_length, fills_slots)
+pointers_appended h e = search (rules, range_length, fills_slots)
 
 -- what is left of a list of structs
 pub structs_appended : (m : List (List ℕ)) (deep s w : ℕ) (u : Tree) (n : ℕ) (x : Part) (old new : List ℕ) → IsStructsObject m deep s w u n x

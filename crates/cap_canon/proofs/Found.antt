@@ -21,17 +21,17 @@ use Rattle.cap_ptr.specs.declared.shapes.Shape.TheVariants as shape
 use Rattle.cap_canon.specs.declared.objects.Object.TheVariants as object
 
 -- a struct
-pub struct_found : (m : List (List ℕ)) (s w : ℕ) (x : Tree) (c d : ℕ) {k t b q tag n charge ds ps : ℕ} → Denotes m s w x c d
+pub struct_found : {m : List (List ℕ)} {s w : ℕ} {x : Tree} (c : ℕ) {d k t b q tag n charge ds ps : ℕ} → Denotes m s w x c d
     → FindsObject m s w k t b q tag n charge (shape.Struct ds ps)
     → IsStructAt m s w t b ds ps x d
-struct_found m s w x c d {k} {t} {b} {q} {tag} {n} {charge} {ds} {ps} h f = go x form h
+struct_found {m} {s} {w} {x} c {d} {k} {t} {b} {q} {tag} {n} {charge} {ds} {ps} h f = go x form h
   where
     form : HasForm x 2
     form = subst (HasForm x) (number_struct (kind q) (code q) f.object.shape.kind) (found_form m s w x c d k t b q h f.finds)
 
     go : (x : Tree) → HasForm x 2 → Denotes m s w x c d → IsStructAt m s w t b ds ps x d
     go (struct ws ts) g (k', t', b', q', tag', ds', ps', inner, deep, found', own, each) =
-        search (rules, one_found found'.object (object_at _ _ _ _ _ _ _ _ _ _ _ f), extent_struct)
+        search (rules, one_found found'.object (object_at m s w k t b q tag n charge (shape.Struct ds ps) f), extent_struct)
     go es g h = search rules
 
 -- as it is trimmed
@@ -85,9 +85,9 @@ pointers_object m s w x c d {k} {t} {b} {q} {tag} {words} {charge} count h f = g
     go es g h = search rules
 
 -- a list of structs
-pub structs_found : (m : List (List ℕ)) (s w : ℕ) (x : Tree) (c d : ℕ) {k t b q tag words charge : ℕ} (size : ℕ) {n ds ps : ℕ} → Denotes m s w x c d
+pub structs_found : {m : List (List ℕ)} {s w : ℕ} {x : Tree} (c : ℕ) {d k t b q tag words charge size n ds ps : ℕ} → Denotes m s w x c d
     → FindsObject m s w k t b q tag words charge (shape.Structs size n ds ps) → IsStructsAt m s w t b n ds ps x d
-structs_found m s w x c d {k} {t} {b} {q} {tag} {words} {charge} size {n} {ds} {ps} h f = go x form h
+structs_found {m} {s} {w} {x} c {d} {k} {t} {b} {q} {tag} {words} {charge} {size} {n} {ds} {ps} h f = go x form h
   where
     form : HasForm x 10
     form = search (rules, number_list, found_form)
@@ -100,7 +100,7 @@ structs_found m s w x c d {k} {t} {b} {q} {tag} {words} {charge} size {n} {ds} {
 
     go : (x : Tree) → HasForm x 10 → Denotes m s w x c d → IsStructsAt m s w t b n ds ps x d
     go (structs y z es) g (k', t', b', q', tag', n', inner, deep, found', each) =
-        search (rules, one_found found'.object (object_at _ _ _ _ _ _ _ _ _ _ _ f), extent_structs, elements_moved)
+        search (rules, one_found found'.object (object_at m s w k t b q tag words charge (shape.Structs size n ds ps) f), extent_structs, elements_moved)
     go es g h = search rules
 
 pub structs_object : (m : List (List ℕ)) (s w b n d : ℕ) (p : Part) (x : Tree) → p.start ≡ b + 1 → IsStructsAt m s w p.segment b n p.data_words p.pointers x d

@@ -86,7 +86,7 @@ pub struct_own : (m : List (List ℕ)) (w end k t b q tag words charge d p : ℕ
     → HasOwn m w end (end + words) q tag t b
 struct_own m w end k t b q tag words charge d p s f has sizes children x c deep h =
     let part : Part = record { segment = t; start = b; data_words = d; pointers = p; data_left = d; pointers_left = p } in
-    let o = struct_object m 0 w deep part x (struct_found m 0 w x c deep h f) sizes (omega arith) children (omega arith) in
+    let o = struct_object m 0 w deep part x (struct_found c h f) sizes (omega arith) children (omega arith) in
     let l : length o.2.words ≡ d = ap length o.2.data_words ∙ range_length m t b d (omega (arith, o.2.found.inside)) in
     let e : pointer_to (end - w - 1) (trim x) ≡ (if (d + p) == 0 then 2 ^ 32 - 4 else struct_word (end - w - 1) d p) =
     search rules in
@@ -145,7 +145,7 @@ pub structs_own : (m : List (List ℕ)) (w end k t b q tag words charge size n d
     → HasOwn m w end (end + words) q tag t b
 structs_own m w end k t b q tag words charge size n d p s f has has_tag sizes children x c deep h =
     let part : Part = record { segment = t; start = b + 1; data_words = d; pointers = p; data_left = d; pointers_left = p } in
-    let o = structs_object m 0 w b n deep part x refl (structs_found m 0 w x c deep size h f) sizes (omega arith) children (omega arith) in
+    let o = structs_object m 0 w b n deep part x refl (structs_found c h f) sizes (omega arith) children (omega arith) in
     let e : pointer_to (end - w - 1) (trim x) ≡ list_word (end - w - 1) 7 (n * (d + p)) = search rules in
     let here : HasWord m 0 w (pointer_to (end - w - 1) (trim x)) = subst (λ z. HasWord m 0 w z) (sym e) has in
     let place = structs_place m o.0 w end (trim x) n part o.2 s.after (omega (arith, s.inside, s.few)) here in
@@ -340,10 +340,10 @@ canonical_at_end m seen end r t trail k report caps = (to, from)
         laid.1 (ap (λ u. segment_of u 0) e ∙ (h.laid ∙ ap (λ u. layout (trim u)) same.part))
 
 -- After a difference it isn't.
-pub compared_at_end : (m : List (List ℕ)) (seen : List (List Step)) (end : ℕ) (r : Report) (t : Tree) → IsTrail m seen [] → IsCompared m end seen
+pub compared_at_end : {m : List (List ℕ)} {seen : List (List Step)} {end : ℕ} {r : Report} {t : Tree} → IsTrail m seen [] → IsCompared m end seen
     → IsReport m 268435456 256 r t → r.caps ≡ 0 → (end ≡ length (segment_of m 0)) ↔ IsCanonical m
-compared_at_end m seen end r t trail (inl k) report caps = canonical_at_end m seen end r t trail k report caps
-compared_at_end m seen end r t trail (inr (e, k)) report caps = search rules
+compared_at_end {m} {seen} {end} {r} {t} trail (inl k) report caps = canonical_at_end m seen end r t trail k report caps
+compared_at_end trail (inr (e, k)) report caps = search rules
 
 -- It is strict all the same.
 pub strict_compared : (m : List (List ℕ)) (words depth : ℕ) (seen : List (List Step)) (end : ℕ) (r : Report) → IsTrail m seen [] → IsCompared m end seen

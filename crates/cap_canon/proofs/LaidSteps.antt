@@ -75,14 +75,14 @@ struct_laid words end slot ws ts due f = (to, from)
     from : IsPointed words end slot (struct ws ts) × HasWordsAt words end ws × Laid words (end + length ws + tree_count ts) (slots (end + length ws) ts ++ due)
         → Laid words end (record { slot = slot; tree = struct ws ts } ∷ due)
     from ((offset, e, p), own, l) =
-        let r = due_row _ _ _ _ _ _ (omega arith) f.2 l in
+        let r = due_row _ _ _ 0 ts due (omega arith) f.2 l in
         let i : end + length ws + tree_count ts + sizes ts ≡ end + size (struct ws ts) = omega arith in (
           offset,
           e,
           p,
-          lie_join _ _ _ _ _
-              (element_end _ _ _ _ _ _ refl (length-pointer_words _ _) refl)
-              (lie_join _ _ _ _ _ refl own r.row) r.below,
+          lie_join words end _ _ _
+              (element_end end _ _ ws _ _ refl (length-pointer_words _ _) refl)
+              (lie_join words end _ ws _ refl own r.row) r.below,
           subst (λ n. Laid words n due) i r.rest,
         )
 
@@ -107,9 +107,9 @@ structs_laid words end slot d p es due f = (to, from)
         × Laid words (end + 1 + tree_count es * (d + p)) (element_slots d p (end + 1) es ++ due)
     to (offset, e, q, s, l) =
         let ew = element_words (d + p) 0 es in
-        let n : length ew ≡ tree_count es * (d + p) = length-element_words _ _ _ _ _ f.4 in
-        let r = elements_due _ _ _ _ _ _ _ _ (no_more _) f.4 (lie_front _ _ _ _ s.1)
-        (lie_back _ _ _ _ _ (structs_after _ _ _ n) s.1)
+        let n : length ew ≡ tree_count es * (d + p) = length-element_words (d + p) 0 d p es f.4 in
+        let r = elements_due words d p _ _ _ es due (no_more _) f.4 (lie_front _ _ ew _ s.1)
+        (lie_back _ _ _ ew _ (structs_after _ _ _ n) s.1)
         (subst (λ x. Laid words x due) (sym (structs_rest _ _ _)) l) in
         ((offset, e, q), s.0, r.0, r.1)
 

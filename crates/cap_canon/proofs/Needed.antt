@@ -73,9 +73,9 @@ pub record ElementsSeen (m : List (List ℕ)) (s start at ds ps count i most : �
   pub within : most ≤ ds
   pub rest : max most (most_data m s at ds ps (count - i)) ≡ most_data m s start ds ps count
 
-pub element_seen : (m : List (List ℕ)) (s start at ds ps count i most now : ℕ) → i < count → now ≡ max most (data_needed (words_from m s at ds)) → now ≤ ds
+pub element_seen : {m : List (List ℕ)} {s start at ds ps count i most now : ℕ} → i < count → now ≡ max most (data_needed (words_from m s at ds)) → now ≤ ds
     → ElementsSeen m s start at ds ps count i most → ElementsSeen m s start (at + (ds + ps)) ds ps count (i + 1) now
-element_seen m s start at ds ps count i most now lt e w k =
+element_seen {count = count} {i = i} lt e w k =
     let n : count - i ≡ suc (count - (i + 1)) = omega (arith, lt) in search (rules, most_on)
 
 -- all have their size already

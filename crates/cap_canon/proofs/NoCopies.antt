@@ -62,7 +62,7 @@ struct_needs : (m : List (List ℕ)) (w end word words charge : ℕ) (x : Tree) 
     → w + 1 + middle word ≡ end → Denotes m 0 w x c d → w < end → end < 2 ^ 29 → IsPointed (segment_of m 0) end w (trim x)
     → StructNeeds m end word (trim x)
 struct_needs m w end word words charge x c d f has next h lt small pointed =
-    let k = struct_found m 0 w x c d h f in
+    let k = struct_found c h f in
     let us = trim_all k.children in
     let front = take (data_needed k.words) k.words in
     let first = take_trees (children_needed us) us in
@@ -102,7 +102,7 @@ structs_need : (m : List (List ℕ)) (w end word tag words charge size n d p : �
     → FindsObject m 0 w 0 0 end word tag words charge (shape.Structs size n d p) → Denotes m 0 w x c deep → OwnAt (segment_of m 0) end (trim x)
     → StructsNeed m end n d p (trim x)
 structs_need m w end word tag words charge size n d p x c deep f h own =
-    let k = structs_found m 0 w x c deep size h f in
+    let k = structs_found c h f in
     let us = trim_elements k.elements in
     let cs = cut_elements (data_of us) (children_of us) us in
     let tree : trim x ≡ structs (data_of us) (children_of us) cs = ap trim k.tree in

@@ -21,11 +21,11 @@ first_text words bytes small h e =
     whole ∙ ap plain_text (first_taken _ _ h ∙ e)
 
 -- a buffer that wasn't made long enough
-pub reports_err : (m : List (List ℕ)) (old new : List ℕ) (fault : CanonFault) → MakesEnough m old (Err fault) new → ReportsOver m old (Err fault) new
-reports_err m old new fault (no_copy s w f e g) = has_capability s w f (ap Err (same_fault fault (HasCapability s w) e)) g
-reports_err m old new fault (refused words h l e g) = no_memory words h l (ap Err (same_fault fault Memory e)) g
-reports_err m old new fault (enough words h l e g) = absurd (cc)
-reports_err m old new fault (made words h l e g) = absurd (cc)
+pub reports_err : {m : List (List ℕ)} {old new : List ℕ} {fault : CanonFault} → MakesEnough m old (Err fault) new → ReportsOver m old (Err fault) new
+reports_err {fault = fault} (no_copy s w f e g) = has_capability s w f (ap Err (same_fault fault (HasCapability s w) e)) g
+reports_err {fault = fault} (refused words h l e g) = no_memory words h l (ap Err (same_fault fault Memory e)) g
+reports_err (enough words h l e g) = absurd (cc)
+reports_err (made words h l e g) = absurd (cc)
 
 -- one that is long enough, for this copy
 pub enough_of : (m : List (List ℕ)) (old new : List ℕ) → MakesEnough m old (Ok tt) new
@@ -37,7 +37,7 @@ pub enough_for : (m : List (List ℕ)) (old new : List ℕ) → MakesEnough m ol
     → (t : _) (c d : ℕ) → Denotes m 0 0 t c d → 8 * length (layout (trim t)) ≤ length new
 enough_for m old new e t c d h =
     let x = enough_of m old new e in
-    omega (arith, x.2, copy_length m x.0 t c d x.1 h)
+    omega (arith, x.2, copy_length t c d x.1 h)
 
 -- n words were written at the start of it
 module _ (m : List (List ℕ)) (old mid new : List ℕ) (n : ℕ) (same : length new ≡ length mid)

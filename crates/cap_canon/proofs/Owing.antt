@@ -54,9 +54,9 @@ pub record Topmost (m : List (List ℕ)) (depth end : ℕ) (f : CopyRun) (runs :
   pub before : AreBefore end own
   pub near : end ≤ longest_copy
 
-pub topmost : (m : List (List ℕ)) (depth end : ℕ) (runs : List CopyRun) (f : CopyRun) (due : List Due) → IsWalking m depth (runs ++ f ∷ []) end due
+pub topmost : {m : List (List ℕ)} {depth end : ℕ} {runs : List CopyRun} {f : CopyRun} {due : List Due} → IsWalking m depth (runs ++ f ∷ []) end due
     → Topmost m depth end f runs due
-topmost m depth end runs f due w =
+topmost {m} {depth} {end} {runs} {f} {due} w =
     let e : reverse (runs ++ f ∷ []) ≡ f ∷ reverse runs = reverse-append runs (f ∷ []) in
     let s : Stacked m depth (f ∷ reverse runs) due = subst (λ fs. Stacked m depth fs due) e w.stacked in
     let b : AreBefore end (s.0 ++ s.1) = subst (AreBefore end) s.2 w.before in record {
@@ -73,7 +73,7 @@ topmost m depth end runs f due w =
 pub top_short : (m : List (List ℕ)) (depth end : ℕ) (runs : List CopyRun) (f : CopyRun) (due : List Due) → IsWalking m depth (runs ++ f ∷ []) end due
     → IsFull f × AreShort (places_of f)
 top_short m depth end runs f due w =
-    let k = topmost m depth end runs f due w in
+    let k = topmost w in
     (k.owes.full, owed_short m depth (length (reverse runs) + 1) end (places_of f) k.own w.message k.near k.before k.owes.owed)
 
 -- The first of the words that are due is at p, and is the next.
@@ -81,21 +81,21 @@ abbrev pub Takes : List (List ℕ) → ℕ → PointerPlace → List CopyRun →
 Takes m depth p runs end due = (tree : Tree) × (rest : List Due) × (due ≡ record { slot = p.slot; tree = tree } ∷ rest) × IsNext m depth p runs end tree rest
 
 -- The first word of the topmost run is the next to look at.
-first_owed : (m : List (List ℕ)) (depth n end : ℕ) (f : CopyRun) (r : Option CopyRun) (runs : List CopyRun) (own rest : List Due) → n ≡ length runs + 1
+first_owed : {m : List (List ℕ)} {depth n end : ℕ} {f : CopyRun} {r : Option CopyRun} (runs : List CopyRun) (own rest : List Due) → n ≡ length runs + 1
     → IsRest f r → IsMessage m
     → AreOwed m depth n (first_place f ∷ option_places r) own → Stacked m depth (reverse runs) rest → AreBefore end (own ++ rest)
     → end + size_due (own ++ rest) ≤ longest_copy
     → Takes m depth (first_place f) (runs ++ option_to_list r) end (own ++ rest)
-first_owed m depth n end f r runs [] rest e is_rest is h s b small = absurd h
-first_owed m depth n end f r runs (x ∷ own) rest e is_rest is h s b small =
+first_owed runs [] rest e is_rest is h s b small = absurd h
+first_owed runs (x ∷ own) rest e is_rest is h s b small =
     search (rules, reverse-more, stacked_more, length-reverse, option_to_list, length-append)
 
 pub next_of : (m : List (List ℕ)) (depth end : ℕ) (runs : List CopyRun) (f : CopyRun) (r : Option CopyRun) (due : List Due)
     → IsWalking m depth (runs ++ f ∷ []) end due → IsRest f r → Takes m depth (first_place f) (runs ++ option_to_list r) end due
 next_of m depth end runs f r due w is_rest =
-    let k = topmost _ _ _ _ _ _ w in
+    let k = topmost w in
     let owed : AreOwed m depth (length (reverse runs) + 1) (first_place f ∷ option_places r) k.own = search rules in
-    let n = first_owed _ _ _ _ _ _ _ _ _ (omega (arith, length-reverse runs)) is_rest w.message owed k.stacked
+    let n = first_owed runs k.own k.rest (omega (arith, length-reverse runs)) is_rest w.message owed k.stacked
     (subst (AreBefore end) k.all w.before) (subst (λ ds. end + size_due ds ≤ longest_copy) k.all w.small) in
     (n.0, n.1, k.all ∙ n.2, n.3)
 

@@ -13,16 +13,16 @@ pub record StructsSoFar (m : List (List ℕ)) (x : Part) (b count i : ℕ) (old 
   pub capacity : length now + (count - i) * (x.data_left + x.pointers_left) ≤ space
 
 -- the next one lies inside
-pub struct_inside : (m : List (List ℕ)) (x : Part) (b count i : ℕ) (old now : List ℕ) (space : ℕ) → i < count
+pub struct_inside : {m : List (List ℕ)} {x : Part} {b count i : ℕ} {old now : List ℕ} {space : ℕ} → i < count
     → x.start + count * (x.data_words + x.pointers) ≤ length (segment_of m x.segment)
     → StructsSoFar m x b count i old now space → b + (x.data_words + x.pointers) ≤ length (segment_of m x.segment)
-struct_inside m x b count i old now space lt h k = search rules
+struct_inside lt h k = search rules
 
-pub structs_more : (m : List (List ℕ)) (x : Part) (b count i : ℕ) (old now next : List ℕ) (space more : ℕ) → i < count → IsFewer x
+pub structs_more : {m : List (List ℕ)} {x : Part} {b count i : ℕ} {old now next : List ℕ} {space more : ℕ} → i < count → IsFewer x
     → b + (x.data_words + x.pointers) ≤ length (segment_of m x.segment)
     → next ≡ now ++ (words_from m x.segment b x.data_left ++ words_from m x.segment (b + x.data_words) x.pointers_left) → space ≤ more
     → StructsSoFar m x b count i old now space → StructsSoFar m x (b + (x.data_words + x.pointers)) count (i + 1) old next more
-structs_more m x b count i old now next space more lt fewer h e g k =
+structs_more {x = x} {b = b} {count = count} {i = i} lt fewer h e g k =
     let n : count - i ≡ suc (count - (i + 1)) = omega (arith, lt) in
     let place : b + (x.data_words + x.pointers) ≡ b + x.data_words + x.pointers = omega arith in
     let rest = rw n at k.rest in

@@ -85,12 +85,12 @@ next_turn m before state depth runs rest p q end now k e taken so_far =
     search (rules, turn_laid m before depth runs p end now k e)
 
 -- no word is left
-pub last_turn : (m : List (List ℕ)) (before state : List (List ℕ) → Tree → ℕ → List Due → Type 0) (depth : ℕ) (runs : List CopyRun)
-    (p : PointerPlace) (end now : ℕ)
+pub last_turn : {m : List (List ℕ)} (before state : List (List ℕ) → Tree → ℕ → List Due → Type 0) {depth : ℕ} {runs : List CopyRun}
+    {p : PointerPlace} {end now : ℕ}
     → (k : AtTurn m before depth runs p end) → now ≡ end + own_size k.tree → IsWalking m depth [] now (below end k.tree ++ k.due)
     → state m (trim k.root) (end + own_size k.tree) (below end k.tree ++ k.due) → (t : Tree) (c d : ℕ) → Denotes m 0 0 t c d
     → (now ≡ length (layout (trim t))) × state m (trim t) now []
-last_turn m before state depth runs p end now k e w so_far t c d h =
+last_turn {m} before state {depth} {runs} {p} {end} {now} k e w so_far t c d h =
     let same = one_tree m 0 0 k.root t k.charge depth c d k.denotes h in
     search (rules, same, turn_laid m before depth runs p end now k e)
 
@@ -113,11 +113,11 @@ pub record TurnHere (m : List (List ℕ)) (state : List (List ℕ) → Tree → 
   pub met : NextLeadsTo m depth p runs end at.tree at.due object
   pub turn : IsTurn m (trim at.root) object p end at.tree at.due
 
-pub turn_here : (m : List (List ℕ)) (state : List (List ℕ) → Tree → ℕ → List Due → Type 0) (depth : ℕ) (runs : List CopyRun)
-    (run : CopyRun) (end : ℕ) (object : Object) → AtRun m state depth runs run end → (rest : Option CopyRun) → IsRest run rest
+pub turn_here : {m : List (List ℕ)} {state : List (List ℕ) → Tree → ℕ → List Due → Type 0} {depth : ℕ} {runs : List CopyRun}
+    {run : CopyRun} {end : ℕ} (object : Object) → AtRun m state depth runs run end → (rest : Option CopyRun) → IsRest run rest
     → ((t : Tree) (c d : ℕ) → Denotes m run.segment run.at t c d → IsObject m d run.segment run.at (trim t) object)
     → TurnHere m state depth (runs ++ option_to_list rest) (first_place run) end object
-turn_here m state depth runs run end object k rest is_rest f =
+turn_here {m} {state} {depth} {runs} {run} {end} object k rest is_rest f =
     let p = first_place run in
     let all = runs ++ option_to_list rest in
     let at = k.turn rest is_rest in

@@ -10,10 +10,10 @@ returns-then-left-part-clause-words g c = search (rules, elements_whole)
 pub elements-preserved : goal.elements-preserved
 elements-preserved g c =
     let e = c.elements in
-    let inside = struct_inside _ _ _ _ _ _ _ _ c.elements-test.true c.requires.inside e.invariant.far in record {
-      far = structs_more _ _ _ _ _ _ _ _ _ _
+    let inside = struct_inside c.elements-test.true c.requires.inside e.invariant.far in record {
+      far = structs_more
           c.elements-test.true c.requires.fewer inside c.append_struct.ensures.words (omega (arith, c.append_struct.ensures.capacity)) e.invariant.far;
       capacity = c.append_struct.ensures.capacity ∙ e.invariant.capacity;
       borrow = c.append_struct.ensures.borrow ∙ e.invariant.borrow;
-      after = λ n h. c.append_struct.ensures.after n h ∙ e.invariant.after n (fewer_before _ _ _ _ c.append_struct.ensures.words h);
+      after = λ n h. c.append_struct.ensures.after n h ∙ e.invariant.after n (fewer_before _ _ _ n c.append_struct.ensures.words h);
     }

@@ -12,7 +12,7 @@ pub returns-in-Err-clause-reports : goal.returns-in-Err-clause-reports
 returns-in-Err-clause-reports g c = c.in-Err.ensures.err c.args.out.now refl
 
 pub returns-in-Err-clause-only : goal.returns-in-Err-clause-only
-returns-in-Err-clause-only g c = λ reported new h. one_buffer _ _ _ _ _ _ (returns-in-Err-clause-reports g c) h
+returns-in-Err-clause-only g c = λ reported new h. one_buffer (returns-in-Err-clause-reports g c) h
 
 pub fill_front-words-requires-clause-tree : goal.fill_front-words-requires-clause-tree
 fill_front-words-requires-clause-tree g c = let k = c.report.ensures.accepted in rw c.message.ensures.value (has_tree _ c.report.result k.0 k.1)
@@ -20,7 +20,7 @@ fill_front-words-requires-clause-tree g c = let k = c.report.ensures.accepted in
 pub fill_front-words-requires-clause-length : goal.fill_front-words-requires-clause-length
 fill_front-words-requires-clause-length g c =
     let h = c.in_default.ensures.ok in
-    rw c.message.ensures.value (λ t x d f. omega (arith, copy_length _ _ _ _ _ h.1 f, h.2))
+    rw c.message.ensures.value (λ t x d f. omega (arith, copy_length t x d h.1 f, h.2))
 
 pub overflow_mul-result : goal.overflow_mul-result
 overflow_mul-result g c =
@@ -47,4 +47,4 @@ returns-clause-reports g c =
     ∙ ap (λ (k : ℕ). plain_text words ++ drop k c.args.out.now) (sym long)))
 
 pub returns-clause-only : goal.returns-clause-only
-returns-clause-only g c = λ reported new h. one_buffer _ _ _ _ _ _ (returns-clause-reports g c) h
+returns-clause-only g c = λ reported new h. one_buffer (returns-clause-reports g c) h

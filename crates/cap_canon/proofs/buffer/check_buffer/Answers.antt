@@ -13,7 +13,7 @@ returns-then-fits_any-clause-ok g c =
     let fits = c.fits_any.ensures.0 c.if-fits_any.true in
     let words = layout (trim k.0) in
     let h = has_copy _ _ _ k.1 fits.0 in
-    let few = copy_charged _ _ _ _ _ k.1.within.denotes h in
+    let few = copy_charged _ k.0 _ _ words k.1.within.denotes h in
     (words, h, omega (arith, few, fits.1))
 
 pub returns-in-Err-HasCapability-clause-err : goal.returns-in-Err-HasCapability-clause-err

@@ -34,7 +34,7 @@ pub returns-in-Ok-clause-first_cap : goal.returns-in-Ok-clause-first_cap
 returns-in-Ok-clause-first_cap g c = λ s w f.
     let reports = rw c.new-bytes.ensures.items at c.in-Ok.ensures.reports in
     let (words, h, text, count) = new_text _ _ _ reports in
-    absurd (cap_no_copy _ _ _ _ f h)
+    absurd (cap_no_copy _ s w _ f h)
 
 first : (a b s w : ℕ) → HasCapability a b ≡ HasCapability s w → a ≡ s
 first a b s w e = cc
@@ -50,14 +50,14 @@ returns-in-Err-clause-memory g c = λ e s w f.
     let reports = rw c.new-bytes.ensures.items at c.in-Err.ensures.reports in
     elim (new_fault _ _ _ reports) [
       | inl (s', w', f', k) ↦ absurd (cc)
-      | inr (words, h, k) ↦ absurd (cap_no_copy _ _ _ _ f h)
+      | inr (words, h, k) ↦ absurd (cap_no_copy _ s w _ f h)
     ]
 
 pub returns-in-Err-clause-copy : goal.returns-in-Err-clause-copy
 returns-in-Err-clause-copy g c = λ words h.
     let reports = rw c.new-bytes.ensures.items at c.in-Err.ensures.reports in
     elim (new_fault _ _ _ reports) [
-      | inl (s', w', f, k) ↦ absurd (cap_no_copy _ _ _ _ f h)
+      | inl (s', w', f, k) ↦ absurd (cap_no_copy _ s' w' _ f h)
       | inr (words', h', k) ↦ k
     ]
 
@@ -66,7 +66,7 @@ returns-in-Err-clause-first_cap g c = λ s w f.
     let reports = rw c.new-bytes.ensures.items at c.in-Err.ensures.reports in
     elim (new_fault _ _ _ reports) [
       | inl (s', w', f', k) ↦
-          let same = one_first_cap _ _ _ _ _ f' f in
+          let same = one_first_cap _ s' w' s w f' f in
           ap Err (k ∙ ap₂ (λ x y. HasCapability x y) same.0 same.1)
-      | inr (words, h, k) ↦ absurd (cap_no_copy _ _ _ _ f h)
+      | inr (words, h, k) ↦ absurd (cap_no_copy _ s w _ f h)
     ]

@@ -21,7 +21,7 @@ returns-else-report-ne0-clause-canonical g c =
     let (seen, trail, known) = c.in-Ok.ensures.knows in
     let vetted = rw c.in-Ok.ensures.message at c.report.ensures.accepted in
     let end = c.in-Ok.turn.end in
-    let whole = compared_at_end _ _ _ _ _ trail known vetted.1 c.if-report-ne0.false in (
+    let whole = compared_at_end trail known vetted.1 c.if-report-ne0.false in (
       λ yes. whole.0 (eqb-true end c.len.result yes ∙ c.len.ensures),
       λ k. eq-eqb end c.len.result (whole.1 k ∙ sym c.len.ensures),
     )

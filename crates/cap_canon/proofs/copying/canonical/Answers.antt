@@ -13,7 +13,7 @@ pub copy_into-requires-clause-capacity : goal.copy_into-requires-clause-capacity
 copy_into-requires-clause-capacity g c =
     let m = g.M.Segments.segments (message_of c.args.v.now) in
     let h = c.in-Ok.ensures.ok in
-    rw c.message.ensures.value (λ t x d f. let e = copy_length m h.0 t x d h.1 f in omega (arith, e, h.2, c.in-Ok-with_capacity.ensures.exact))
+    rw c.message.ensures.value (λ t x d f. let e = copy_length t x d h.1 f in omega (arith, e, h.2, c.in-Ok-with_capacity.ensures.exact))
 
 pub returns-clause-capacity : goal.returns-clause-capacity
 returns-clause-capacity g c =
@@ -27,7 +27,7 @@ returns-clause-accepted g c =
     let h = c.in-Ok.ensures.ok in
     let k = c.report.ensures.accepted in
     let made = copy_of _ _ _ h.1 (rw c.message.ensures.value at c.copy_into.ensures.words) in
-    λ t x d f. copy_denotes _ _ _ _ _ made f (few_charged _ _ _ _ _ _ k.1 f)
+    λ t x d f. copy_denotes _ _ t x d made f (few_charged t x d k.1 f)
 
 pub returns-clause-own : goal.returns-clause-own
 returns-clause-own g c =
@@ -35,20 +35,20 @@ returns-clause-own g c =
     let h = c.in-Ok.ensures.ok in
     let k = c.report.ensures.accepted in
     let made = copy_of m h.0 c.copy_into.new.copy.items h.1 (rw c.message.ensures.value at c.copy_into.ensures.words) in
-    copy_own m c.copy_into.new.copy.items made (few_charged m c.report.result k.0 made.tree made.charge made.depth k.1 made.denotes)
+    copy_own m c.copy_into.new.copy.items made (few_charged made.tree made.charge made.depth k.1 made.denotes)
 
 pub returns-clause-near : goal.returns-clause-near
 returns-clause-near g c =
     let k = c.report.ensures.accepted in
     let words = rw c.message.ensures.value at c.copy_into.ensures.words in
-    λ t x d f. (words t x d f, offsets_fit _ _ _ _ _ _ f (few_charged _ _ _ _ _ _ k.1 f))
+    λ t x d f. (words t x d f, offsets_fit _ 0 0 t x d f (few_charged t x d k.1 f))
 
 pub returns-clause-only : goal.returns-clause-only
 returns-clause-only g c =
     let h = c.in-Ok.ensures.ok in
     let k = c.report.ensures.accepted in
     let made = copy_of _ _ _ h.1 (rw c.message.ensures.value at c.copy_into.ensures.words) in
-    λ t u x d x' d' other f f' few. copy_only _ _ _ _ _ _ _ _ _ made f (few_charged _ _ _ _ _ _ k.1 f) f' few
+    λ t u x d x' d' other f f' few. copy_only _ _ t u x d x' d' other made f (few_charged t x d k.1 f) f' few
 
 pub returns-clause-first_cap : goal.returns-clause-first_cap
 returns-clause-first_cap g c =

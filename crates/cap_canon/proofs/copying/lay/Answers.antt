@@ -6,13 +6,13 @@ use Rattle.cap_canon.proofs.copying.lay.Goals as goal
 pub returns-clause-agrees : goal.returns-clause-agrees
 returns-clause-agrees g c = λ d s w tree whole due is p own a.
     (let app = rw c.set.ensures.words at (c.append_own.ensures.own d s w tree is) in
-    agrees_more _ _ _ _ _ _ _ _ c.requires.ends.0 c.requires.ends.1
+    agrees_more _ whole due c.requires.ends.0 c.requires.ends.1
     (c.pointer_word.ensures (g.M.Segments.segments c.args.message.now) d s w tree is) p own app a)
 
 pub returns-clause-ends : goal.returns-clause-ends
 returns-clause-ends g c = λ d s w tree is.
     (let app = rw c.set.ensures.words at (c.append_own.ensures.own d s w tree is) in
-    length_more _ _ _ _ _ _ c.requires.ends.0 app)
+    length_more _ _ _ c.requires.ends.0 app)
 
 pub append_own-requires : goal.append_own-requires
 append_own-requires g c =

@@ -57,7 +57,7 @@ returns-clause-few g c =
     let texts = rw c.message.ensures.value at c.in-Ok.ensures.text in
     let long = ap length (texts k.0 _ _ k.1.within.denotes) in
     let same = ap (λ q. q.charge) c.report-report.ensures.value in
-    omega (arith, long, length_plain words, layout_charged _ _ _ _ _ _ k.1.within.denotes, c.len.ensures, same)
+    omega (arith, long, length_plain words, layout_charged _ 0 0 k.0 _ _ k.1.within.denotes, c.len.ensures, same)
 
 pub returns-clause-some : goal.returns-clause-some
 returns-clause-some g c =

@@ -10,7 +10,7 @@ use Rattle.cap_canon.proofs.Overs.{copy_ok, enough_for, grows, reports_err, repo
 use Rattle.cap_canon.proofs.over.fill_over.Goals as goal
 
 pub returns-in-Err-clause-reports : goal.returns-in-Err-clause-reports
-returns-in-Err-clause-reports g c = reports_err _ _ _ _ c.in-Err.ensures.makes
+returns-in-Err-clause-reports g c = reports_err c.in-Err.ensures.makes
 
 pub fill_front-words-requires-clause-tree : goal.fill_front-words-requires-clause-tree
 fill_front-words-requires-clause-tree g c = let k = c.report.ensures.accepted in rw c.message.ensures.value (has_tree _ c.report.result k.0 k.1)

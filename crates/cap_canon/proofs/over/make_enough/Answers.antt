@@ -11,7 +11,7 @@ returns-then-fits_any-clause-makes g c =
     let words = layout (trim k.0) in
     let fits = c.fits_any.ensures.0 c.if-fits_any.true in
     let h = has_copy _ _ _ k.1 fits.0 in
-    let few = copy_charged _ _ _ _ _ k.1.within.denotes h in
+    let few = copy_charged _ k.0 _ _ words k.1.within.denotes h in
     enough words h (omega (arith, few, length_plain words, fits.1, c.len.ensures)) refl refl
 
 pub returns-in-Err-clause-makes : goal.returns-in-Err-clause-makes

@@ -5,4 +5,4 @@ use Rattle.cap_canon.proofs.stack.own_words.Goals as goal
 pub returns-in-Scalars : goal.returns-in-Scalars
 returns-in-Scalars c = λ m d s w tree h.
     let k = rw c.in-Scalars.is at h in
-    sym (scalars_size m s w tree k.1)
+    sym (scalars_size k.1)

@@ -11,7 +11,7 @@ returns-then-most-pointers-clause-value g c = search (rules, enough_children)
 pub pointers_left-most-requires-clause-denote : goal.pointers_left-most-requires-clause-denote
 pointers_left-most-requires-clause-denote g c =
     let r = c.requires.elements in
-    let k = buffered _ _ _ _ _ _ _ _ _ _ _ _ c.elements-test.true c.elements.invariant r.3 in
+    let k = buffered r.1 r.2 c.elements-test.true c.elements.invariant r.3 in
     (k.children, k.parts.c1, k.parts.d1, k.parts.children)
 
 pub elements-preserved : goal.elements-preserved

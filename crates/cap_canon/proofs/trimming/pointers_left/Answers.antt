@@ -1,4 +1,4 @@
-use Rattle.std.proofs.Common.{arith, ◌-◌, rules}
+use Rattle.std.proofs.Common.{arith, rules}
 use Rattle.cap_canon.proofs.Children.{child_at, child_below, child_here, row_needed}
 use Rattle.cap_canon.proofs.trimming.pointers_left.Goals as goal
 
@@ -8,7 +8,7 @@ loop-left-init g c = search (rules, row_needed)
 pub is_null_at-requires : goal.is_null_at-requires
 is_null_at-requires g c =
     let r = c.requires.denote in
-    let k = child_at _ _ _ _ _ _ _ _ r.3 (omega (arith, c.loop-left-test.true, c.loop-left.invariant.high)) in
+    let k = child_at _ _ _ c.args.count r.0 _ _ _ r.3 (omega (arith, c.loop-left-test.true, c.loop-left.invariant.high)) in
     (k.0, k.1, k.2, k.4)
 
 pub returns-then-not-is_null_at-clause-value : goal.returns-then-not-is_null_at-clause-value

@@ -18,7 +18,7 @@ module _ {m : List (List ℕ)} {state : List (List ℕ) → Tree → ℕ → Lis
   here : {run : CopyRun} (object : Object) (k : AtRun m state depth runs run end)
       → ((t : Tree) (c d : ℕ) → Denotes m run.segment run.at t c d → IsObject m d run.segment run.at (trim t) object)
       → TurnHere m state depth (runs ++ option_to_list (has_rest run k.full).0) (first_place run) end object
-  here {run} object k f = let r = has_rest run k.full in turn_here m state depth runs run end object k r.0 r.1 f
+  here {run} object k f = let r = has_rest run k.full in turn_here object k r.0 r.1 f
 
   word_here : {run : CopyRun} → AtRun m state depth runs run end → (t : Tree) × (c d : ℕ) × Denotes m run.segment run.at t c d
   word_here {run} k =
@@ -91,11 +91,11 @@ pub returns-then-not-go_on-2-clause-done : goal.returns-then-not-go_on-2-clause-
 returns-then-not-go_on-2-clause-done g c =
     let w = c.walk in
     let on = c.go_on-in-walk.ensures in
-    let h = turn_here _ _ _ _ _ _ c.object_at-object.result w.invariant.at on.rest on.is_rest c.object_at-object.ensures in
+    let h = turn_here c.object_at-object.result w.invariant.at on.rest on.is_rest c.object_at-object.ensures in
     let e = ap (λ n. w.end + n) (c.own_words-end.ensures _ h.met.d w.run.segment w.run.at h.at.tree h.met.is) in
     let owed = c.run_of-below.ensures.owed _ h.met.d w.run.segment w.run.at c.args.depth _ h.at.tree h.met.is h.met.levels in
     let none = on.runs ∙ ap (λ b. runs_left b c.go_on-in-walk.new.stack.items c.go_on-in-walk.new.run) c.if-not-go_on-2.true in
-    last_turn _ (g.P.Pass.state w.pass) (g.P.Pass.state c.visit-in-walk.new.self) _ _ _ _ _ h.at e
+    last_turn (g.P.Pass.state w.pass) (g.P.Pass.state c.visit-in-walk.new.self) h.at e
     (walking h c.run_of-below.result _ [] e c.run_of-below.ensures.full owed none)
     (c.visit-in-walk.ensures.goes_on (trim h.at.root) h.at.tree h.at.due h.turn h.at.so_far)
 
@@ -109,7 +109,7 @@ pub walk-smaller : goal.walk-smaller
 walk-smaller g c =
     let w = c.walk in
     let on = c.go_on-in-walk.ensures in
-    let h = turn_here _ _ _ _ _ _ c.object_at-object.result w.invariant.at on.rest on.is_rest c.object_at-object.ensures in
+    let h = turn_here c.object_at-object.result w.invariant.at on.rest on.is_rest c.object_at-object.ensures in
     let runs = w.stack.items ++ option_to_list on.rest in
     let new = c.go_on-in-walk.new in
     let same = on.runs ∙ ap (λ b. runs_left b new.stack.items new.run) c.if-not-go_on-2.false in
@@ -125,7 +125,7 @@ pub walk-preserved : goal.walk-preserved
 walk-preserved g c =
     let w = c.walk in
     let on = c.go_on-in-walk.ensures in
-    let h = turn_here _ _ _ _ _ _ c.object_at-object.result w.invariant.at on.rest on.is_rest c.object_at-object.ensures in
+    let h = turn_here c.object_at-object.result w.invariant.at on.rest on.is_rest c.object_at-object.ensures in
     let e = ap (λ n. w.end + n) (c.own_words-end.ensures _ h.met.d w.run.segment w.run.at h.at.tree h.met.is) in
     let owed = c.run_of-below.ensures.owed _ h.met.d w.run.segment w.run.at c.args.depth _ h.at.tree h.met.is h.met.levels in
     let new = c.go_on-in-walk.new in
@@ -149,10 +149,10 @@ pub returns-then-not-go_on-clause-done : goal.returns-then-not-go_on-clause-done
 returns-then-not-go_on-clause-done g c =
     let w = c.walk in
     let on = c.go_on.ensures in
-    let h = turn_here _ _ _ _ _ _ object.Null w.invariant.at on.rest on.is_rest (c.leads_to_null.ensures c.if-leads_to_null.true) in
+    let h = turn_here object.Null w.invariant.at on.rest on.is_rest (c.leads_to_null.ensures c.if-leads_to_null.true) in
     let e : w.end ≡ w.end + own_size h.at.tree = omega (arith, ap own_size h.met.is) in
     let none = on.runs ∙ ap (λ b. runs_left b c.go_on.new.stack.items c.go_on.new.run) c.if-not-go_on.true in
-    last_turn _ (g.P.Pass.state w.pass) (g.P.Pass.state c.visit.new.self) _ _ _ _ _ h.at e
+    last_turn (g.P.Pass.state w.pass) (g.P.Pass.state c.visit.new.self) h.at e
     (walking h None _ [] e tt (rw h.met.is tt) none) (c.visit.ensures.goes_on (trim h.at.root) h.at.tree h.at.due h.turn h.at.so_far)
 
 pub returns-then-not-go_on-clause-kept : goal.returns-then-not-go_on-clause-kept
@@ -165,7 +165,7 @@ pub walk-preserved-then-leads_to_null : goal.walk-preserved-then-leads_to_null
 walk-preserved-then-leads_to_null g c =
     let w = c.walk in
     let on = c.go_on.ensures in
-    let h = turn_here _ _ _ _ _ _ object.Null w.invariant.at on.rest on.is_rest (c.leads_to_null.ensures c.if-leads_to_null.true) in
+    let h = turn_here object.Null w.invariant.at on.rest on.is_rest (c.leads_to_null.ensures c.if-leads_to_null.true) in
     let e : w.end ≡ w.end + own_size h.at.tree = omega (arith, ap own_size h.met.is) in
     let new = c.go_on.new in
     let same = on.runs ∙ ap (λ b. runs_left b new.stack.items new.run) c.if-not-go_on.false in record {

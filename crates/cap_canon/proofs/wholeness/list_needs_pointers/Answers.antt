@@ -15,7 +15,7 @@ returns-clause-yes g c = λ y es c' d h.
     let e : a.start + (a.data_words + (a.pointers - 1)) + k * (a.data_words + a.pointers) ≡ a.start + k *
     (a.data_words + a.pointers) + a.data_words + (a.pointers - 1) = omega arith in
     let at = subst (λ i. HasWord m a.s i c.first_set.result) e has in
-    elements_whole _ _ _ _ _ _ _ _ _ _ some lt (λ u c'' d' x. isnt_null_word _ _ _ _ _ _ _ at needed.0 needed.1 x) h
+    elements_whole m a.s a.start _ _ _ k es c' d some lt (λ u c'' d' x. isnt_null_word m a.s _ _ u c'' d' at needed.0 needed.1 x) h
 
 pub returns-clause-no : goal.returns-clause-no
 returns-clause-no g c = λ n.
@@ -24,7 +24,7 @@ returns-clause-no g c = λ n.
     elim (c.is_needed.ensures.no n) [
       | inl z ↦ inl (λ es c' d h same.
           let zeros = c.first_set.ensures.none z in
-          omega (arith, elements_short _ _ _ _ _ _ _ _ _ some zeros h, same, some))
+          omega (arith, elements_short _ a.s a.start _ _ _ es c' d some zeros h, same, some))
       | inr far ↦
           let set = c.first_set.ensures.some (λ z. (let e : kind c.first_set.result ≡ kind 0 = ap kind z in omega (arith, e, far))) in
           inr (some, set.0, set.1, (c.first_set.result, set.2, far))
