@@ -156,11 +156,11 @@ pub marked_step : (words : List ℕ) (at : ℕ) → at < length words → get_or
 marked_step words at h n z = search (rules, drop_more, marked_encoded)
 
 -- what a whole piece does: words that join the open group, and the groups after it
-pub piece_encoded : (before now xs piece front group text left : List ℕ) (j : ℕ) → now ≡ before ++ take j xs →
+pub piece_encoded : (before : List ℕ) {now : List ℕ} (xs : List ℕ) {piece front group : List ℕ} (text left : List ℕ) (j : ℕ) → now ≡ before ++ take j xs →
     Encodes (now ++ drop j xs) group (drop j xs) → front ≡ group → piece ≡ drop j xs →
     ((ws : List ℕ) → front ++ pack_text (piece ++ ws) ≡ text ++ pack_text (left ++ ws)) → (ws : List ℕ) →
     pack_text (before ++ (xs ++ ws)) ≡ text ++ pack_text (left ++ ws)
-piece_encoded before now xs piece front group text left j joined apart f p encoded ws = search (rules, take-append-drop, append_assoc)
+piece_encoded before xs text left j joined apart f p encoded ws = search (rules, take-append-drop, append_assoc)
 
 -- the words after those that were encoded
 pub left_after : (xs : List ℕ) (j k : ℕ) → drop k (take (length xs - j) (drop j xs)) ≡ take (length xs - (j + k)) (drop (j + k) xs)
