@@ -62,7 +62,7 @@ fault_root m words depth root path v has reason = record {
 pub next_comes : (m : List (List ℕ)) (words depth : ℕ) (path : List Step) (a : Spot) (at : Arrival) (step : Step)
     (s w : ℕ) → Arrives m words depth path a at → StepsTo m a step (word s w)
     → Reaches m (path ++ step ∷ []) (at.level + 1) s w
-next_comes m words depth path a at step s w h g = (coming_last _ _ _ _ _).1 (a, at.level, h.comes, g, refl)
+next_comes m words depth path a at step s w h g = (coming_last m path step _ _).1 (a, at.level, h.comes, g, refl)
 
 -- What a path within the depth limit comes to takes no level past it.
 shallow_here : (m : List (List ℕ)) (words depth : ℕ) (path : List Step) (s w k t b q tag : ℕ) (at : Arrival)
@@ -173,15 +173,15 @@ arrives_element m words depth path a at step t b ds ps lax e h g exists inside =
     }
 
 -- The first fault on the beginning of a path is the first on the path.
-pub fault_longer : (m : List (List ℕ)) (words depth : ℕ) (done rest path : List Step) (r : Refusal)
+pub fault_longer : {m : List (List ℕ)} {words depth : ℕ} {done : List Step} (rest : List Step) {path : List Step} {r : Refusal}
     → done ++ rest ≡ path → IsFaultOnPath m words depth done r → IsFaultOnPath m words depth path r
-fault_longer m words depth done rest path r e f = grind (arith, common_steps, begins_longer)
+fault_longer rest e f = grind (arith, common_steps, begins_longer)
 
 -- What was charged where a step leads to no node.
-pub charges_no_node : (m : List (List ℕ)) (words depth : ℕ) (done rest path : List Step) (step : Step) (a : Spot)
-    (at : Arrival) → done ++ step ∷ rest ≡ path → Arrives m words depth done a at
+pub charges_no_node : {m : List (List ℕ)} {words depth : ℕ} {done : List Step} (rest : List Step) {path : List Step} (step : Step) {a : Spot}
+    {at : Arrival} → done ++ step ∷ rest ≡ path → Arrives m words depth done a at
     → ((b : Spot) → StepsTo m a step b → ⊥) → Charges m words depth path (words - at.consumed)
-charges_no_node m words depth done rest path step a at e h none = record {
+charges_no_node {m} {done} rest step {a} {at} e h none = record {
   ways = h.ways;
   on_path = subst (λ x. AreOnPath m x h.ways) e (on_no_node m done rest h.ways step at.level a h.on_path h.comes none);
   some = h.some;
@@ -191,8 +191,8 @@ charges_no_node m words depth done rest path step a at e h none = record {
   consumed = omega (arith, h.within);
 }
 
-pub arrives_no_node : (m : List (List ℕ)) (words depth : ℕ) (done rest path : List Step) (step : Step) (a : Spot)
-    (at : Arrival) → path ≡ done ++ step ∷ rest → Arrives m words depth done a at
+pub arrives_no_node : {m : List (List ℕ)} {words depth : ℕ} {done : List Step} (rest : List Step) {path : List Step} (step : Step) {a : Spot}
+    {at : Arrival} → path ≡ done ++ step ∷ rest → Arrives m words depth done a at
     → ((b : Spot) → StepsTo m a step b → ⊥) → (k : Kind) (t b n : ℕ) → PathFinds m path k t b n → ⊥
-arrives_no_node m words depth done rest path step a at e h none k t b n
-    (level, spot, comes, lies) = comes_no_node m path done rest step at.level a e h.comes none level spot comes
+arrives_no_node {m} {done} rest step {a} e h none k t b n
+    (level, spot, comes, lies) = comes_no_node m done rest step a e h.comes none level spot comes

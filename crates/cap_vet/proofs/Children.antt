@@ -9,10 +9,10 @@ use Rattle.cap_vet.proofs.Apart.{Apart-steps}
 use Rattle.cap_vet.proofs.Trails.{AreChildren}
 
 -- what reaches a pointer word after one that is reached goes on from it by steps of its own
-pub beyond : (m : List (List ℕ)) (base : List Step) (x : Step) (v : List Step) (level level' s w s' w' : ℕ)
+pub beyond : (m : List (List ℕ)) (base : List Step) (x : Step) (v : List Step) {level level' : ℕ} (s w s' w' : ℕ)
     → Reaches m base level s w → Reaches m (base ++ x ∷ v) level' s' w'
     → (mid : Spot) × (n : ℕ) × StepsTo m (word s w) x mid × PathLeads m mid v n (word s' w')
-beyond m base x v level level' s w s' w' g h =
+beyond m base x v {level} {level'} s w s' w' g h =
     let here = (comes_beyond m base (x ∷ v) level level' (word s w) (word s' w') g h).1 in
     (here.0, here.1, here.2, here.3)
 
@@ -65,13 +65,13 @@ pub one_step : (m : List (List ℕ)) (base : List Step) (x : Step) (level s w t 
 one_step m base x level s w t v h g = reaches_on m base x [] level 1 s w t v h (word t v, 0, g, (refl, refl), refl)
 
 -- what has no step to go on by has no children
-pub no_children : (m : List (List ℕ)) (base : List Step) (level s w : ℕ) → Reaches m base level s w
+pub no_children : {m : List (List ℕ)} {base : List Step} {level s w : ℕ} → Reaches m base level s w
     → ((x : Step) (v : List Step) (mid : Spot) (n s' w' : ℕ) → StepsTo m (word s w) x mid → PathLeads m mid v n (word s' w') → ⊥) → AreChildren m base []
-no_children m base level s w h none = record {
+no_children {m} {base} {s} {w} h none = record {
   apart = tt;
   go_on = tt;
   reached = tt;
-  complete = λ x v level' s' w' k. let (mid, n, goes, walks) = beyond m base x v level level' s w s' w' h k in none x v mid n s' w' goes walks;
+  complete = λ x v level' s' w' k. let (mid, n, goes, walks) = beyond m base x v s w s' w' h k in none x v mid n s' w' goes walks;
 }
 
 -- the children of a struct
@@ -83,7 +83,7 @@ struct_children m base level s w k t b q h f e = record {
   reached = AreReached-row m base (level + 1) Ptr t (b + data_size q) 0 (pointer_size q) (λ j l.
       subst (λ u. Reaches m (base ++ Ptr u ∷ []) (level + 1) t (b + data_size q + j)) (omega arith)
       (one_step m base (Ptr j) level s w t (b + data_size q + j) h (k, t, b, q, 0, data_size q, pointer_size q, struct_found m s w k t b q f e, l, refl)));
-  complete = λ x v level' s' w' r. let (mid, n, goes, walks) = beyond _ _ _ _ _ _ _ _ _ _ h r in under x v mid goes;
+  complete = λ x v level' s' w' r. let (mid, n, goes, walks) = beyond m base x v s w s' w' h r in under x v mid goes;
 }
   where
     under : (x : Step) (v : List Step) (mid : Spot) → StepsTo m (word s w) x mid
@@ -107,7 +107,7 @@ pointers_children m base level s w k t b q h f e c = record {
   reached = AreReached-row m base (level + 1) Item t b 0 (list_size q) (λ j l.
       subst (λ u. Reaches m (base ++ Item u ∷ []) (level + 1) t (b + j)) (omega arith)
       (one_step m base (Item j) level s w t (b + j) h (inl (k, t, b, q, 0, list_size q, pointers_found m s w k t b q f e c, l, refl))));
-  complete = λ x v level' s' w' r. let (mid, n, goes, walks) = beyond m base x v level level' s w s' w' h r in under x v mid goes;
+  complete = λ x v level' s' w' r. let (mid, n, goes, walks) = beyond m base x v s w s' w' h r in under x v mid goes;
 }
   where
     under : (x : Step) (v : List Step) (mid : Spot) → StepsTo m (word s w) x mid → IsUnder (base ++ x ∷ v) (row base (level + 1) Item t b 0 (list_size q))

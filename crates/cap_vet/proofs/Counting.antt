@@ -26,7 +26,7 @@ complete_on : (m : List (List ℕ)) (counted : Counted) (a : Ahead) (children ah
     → IsCount m counted (a ∷ ahead) → Counts m a children cost counted.depth low' caps
     → (c top p k : ℕ) → Owe m (children ++ ahead) c top p k → (t : Tree) × (d : ℕ) × Completes m (counted_on counted cost low' caps) c top p k t d
 complete_on m counted a children ahead cost low' caps count step c top p k owe =
-    let parts = append-Owe m children ahead c top p k owe in
+    let parts = append-Owe children owe in
     let b = step.build parts.c1 parts.d1 parts.p1 parts.k1 parts.first in
     let whole : Owe m (a ∷ ahead) (cost + parts.c1 + parts.c2) (max (a.level + b.depth) parts.d2)
     (pointer_count b.tree + parts.p2) (cap_count b.tree + parts.k2) =

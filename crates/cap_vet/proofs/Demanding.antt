@@ -19,7 +19,7 @@ fault_of demands m words depth fault h = search rules
 pub one_fault_under : (demands : Demands) (m : List (List ℕ)) (words depth : ℕ) (a b : StrictRefusal)
     → IsDemandFault demands m words depth a → IsDemandFault demands m words depth b → a ≡ b
 one_fault_under demands m words depth a b h k =
-    one_strict_fault _ _ _ _ _ (fault_of demands m words depth a h) (fault_of demands m words depth b k)
+    one_strict_fault m _ depth a b (fault_of demands m words depth a h) (fault_of demands m words depth b k)
 
 -- and none of a message that meets the demands
 pub no_fault_under : (demands : Demands) (m : List (List ℕ)) (words depth : ℕ) (fault : StrictRefusal)

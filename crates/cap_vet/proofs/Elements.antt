@@ -90,7 +90,7 @@ structs_children m base level s w k t b q tag h f is_list is_structs has = recor
       subst (λ u. Reaches m (base ++ Item u ∷ Ptr j ∷ []) (level + (element_levels 1 + 1)) t
       (b + 1 + e * (data_size tag + pointer_size tag) + data_size tag + j)) g
       (two_steps m base level s w k t b q tag e j h f is_list is_structs has l l'));
-  complete = λ x v level' s' w' r. let (mid, n, goes, walks) = beyond m base x v level level' s w s' w' h r in under x v mid n s' w' goes walks;
+  complete = λ x v level' s' w' r. let (mid, n, goes, walks) = beyond m base x v s w s' w' h r in under x v mid n s' w' goes walks;
 }
   where
     under : (x : Step) (v : List Step) (mid : Spot) (n s' w' : ℕ) → StepsTo m (word s w) x mid → PathLeads m mid v n (word s' w')

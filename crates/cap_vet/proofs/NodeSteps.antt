@@ -70,13 +70,14 @@ no_node m path t c d none h = go (node_at t path) refl
     go (Some u) e = let r = node_to_coming m t c d h path u e in absurd (none r.0 r.1 r.2)
 
 -- where the path up to here leads, and the next step leads to no node, the whole path does
-pub comes_no_node : (m : List (List ℕ)) (path done rest : List Step) (step : Step) (level : ℕ) (a : Spot) → path ≡ done ++ step ∷ rest → ReachesSpot m done level a
+pub comes_no_node : (m : List (List ℕ)) {path : List Step} (done rest : List Step) (step : Step) {level : ℕ} (a : Spot)
+    → path ≡ done ++ step ∷ rest → ReachesSpot m done level a
     → ((b : Spot) → StepsTo m a step b → ⊥) → (level' : ℕ) (b : Spot) → ReachesSpot m path level' b → ⊥
-comes_no_node m path done rest step level a e h none level' b g =
+comes_no_node m done rest step {level} a e h none level' b g =
     let g' : ReachesSpot m (done ++ step ∷ rest) level' b = subst (λ u. ReachesSpot m u level' b) e g in
     let w = (comes_beyond m done (step ∷ rest) level level' a b h g').1 in none w.0 w.2
 
 -- one more step
 pub comes_on : (m : List (List ℕ)) (done : List Step) (step : Step) (level : ℕ) (a b : Spot) → ReachesSpot m done level a
     → StepsTo m a step b → (level' : ℕ) × ReachesSpot m (done ++ step ∷ []) level' b
-comes_on m done step level a b h g = (level + level_of b, (coming_last _ _ _ _ _).1 (a, level, h, g, refl))
+comes_on m done step level a b h g = (level + level_of b, (coming_last m done step _ _).1 (a, level, h, g, refl))

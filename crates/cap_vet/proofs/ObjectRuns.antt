@@ -35,12 +35,12 @@ structs_inside m s w q tag size {count = zero} level f e1 e2 e3 e4 e5 some each 
 structs_inside m s w {k} {t} {b} q tag {n} {c} size {count = suc count} {d} {p} {more} level f e1 e2 e3 e4 e5 some each =
     search (rules, structs_fit)
 
-pub structs_places : (m : List (List ℕ)) (s w : ℕ) {k t b : ℕ} (q tag : ℕ) {n c : ℕ} (size : ℕ) {count d p at left more ds ps : ℕ} (level : ℕ) {here : ℕ}
+pub structs_places : {m : List (List ℕ)} {s w k t b q tag n c size count d p at left more ds ps : ℕ} (level : ℕ) {here : ℕ}
     → FindsObject m s w k t b q tag n c (Structs size count d p)
     → at ≡ b + 1 + d → left ≡ p → more ≡ count - 1 → ds ≡ d → ps ≡ p → 0 < count → here ≡ level + (element_levels 1 + 1)
     → spots record { segment = t; at = at; left = left; more = more; data_words = ds; pointers = ps; level = here } ≡ object_places q tag t b level
-structs_places m s w q tag size {count = zero} level f e1 e2 e3 e4 e5 some e6 = absurd (omega arith)
-structs_places m s w q tag size {count = suc count} {d} {p} {more} level f e1 e2 e3 e4 e5 some e6 = search rules
+structs_places {count = zero} level f e1 e2 e3 e4 e5 some e6 = absurd (omega arith)
+structs_places {q} {tag} {count = suc count} {d} {p} {more} level f e1 e2 e3 e4 e5 some e6 = search rules
 
 -- an element's start is a number of 32 bits
 pub start_fits : (m : List (List ℕ)) (s w : ℕ) {k t b : ℕ} (q tag : ℕ) {n c : ℕ} (size : ℕ) {count d : ℕ} (p at : ℕ) → IsMessage m

@@ -60,9 +60,9 @@ pub record Brings (m : List (List ℕ)) (a : Ahead) (q tag t b cost low deep : �
   pub near : AreInLevels (max low deep) (object_children a.path q tag t b a.level)
 
 -- one cost and one depth in place of equal ones
-counts-at : (m : List (List ℕ)) (a : Ahead) (children : List Ahead) (cost cost' low low' low'' caps : ℕ) → cost ≡ cost'
+counts-at : {m : List (List ℕ)} {a : Ahead} {children : List Ahead} {cost cost' low low' low'' caps : ℕ} → cost ≡ cost'
     → low' ≡ low'' → Counts m a children cost low low' caps → Counts m a children cost' low low'' caps
-counts-at m a children cost cost' low low' low'' caps e f h = subst (λ u. Counts m a children u low low'' caps) e
+counts-at {m} {a} {children} {cost} {low} {low''} {caps} e f h = subst (λ u. Counts m a children u low low'' caps) e
     (subst (λ u. Counts m a children cost low u caps) f h)
 
 struct-brings : (m : List (List ℕ)) (a : Ahead) (k t b q tag low : ℕ) → Reaches m a.path a.level a.segment a.word
@@ -74,11 +74,11 @@ struct-brings m a k t b q tag low r f e =
     let ch : object_children a.path q tag t b a.level ≡ row a.path (a.level + 1) Ptr t (b + data_size q) 0 (pointer_size q) = rw e refl in
     let pl : object_places q tag t b a.level ≡ row_places (a.level + 1) t (b + data_size q) (pointer_size q) = rw e refl in record {
       children = rw ch (struct_children m a.path a.level a.segment a.word k t b q r f e);
-      counts = rw ch (counts-at _ _ _ _ _ _ _ _ _ (omega (arith, x)) (omega (arith, l))
+      counts = rw ch (counts-at (omega (arith, x)) (omega (arith, l))
           (struct-counts m a k t b q low f e));
       places = rw (ch, pl) (places-row a.path (a.level + 1) Ptr t (b + data_size q) 0 (pointer_size q));
       few = rw ch (omega (arith, length-row a.path (a.level + 1) Ptr t (b + data_size q) 0 (pointer_size q), extent_struct q e));
-      near = rw ch (near-row _ _ _ _ _ _ _ _ (omega arith) (omega arith));
+      near = rw ch (near-row a.path _ _ Ptr t _ 0 (pointer_size q) (omega arith) (omega arith));
     }
 
 -- a list of values has no step to go on by
@@ -94,8 +94,8 @@ scalars-brings m a k t b q tag low r f e no_pointers no_structs below =
     let l : levels_below q tag ≡ 0 = rw (e, no_structs) refl in
     let ch : object_children a.path q tag t b a.level ≡ [] = rw (e, no_pointers, no_structs) refl in
     let pl : object_places q tag t b a.level ≡ [] = rw (e, no_pointers, no_structs) refl in record {
-      children = rw ch (no_children m a.path a.level a.segment a.word r (scalars_end m a.segment a.word k t b q f e below));
-      counts = rw ch (counts-at _ _ _ _ _ _ _ _ _ (omega (arith, x)) (omega (arith, l))
+      children = rw ch (no_children r (scalars_end m a.segment a.word k t b q f e below));
+      counts = rw ch (counts-at (omega (arith, x)) (omega (arith, l))
           (scalars-counts m a k t b q low f e below));
       places = rw (ch, pl) refl;
       few = rw ch (omega arith);
@@ -111,7 +111,7 @@ pointers-brings m a k t b q tag low r f e c =
     let ch : object_children a.path q tag t b a.level ≡ row a.path (a.level + 1) Item t b 0 (list_size q) = rw (e, c) refl in
     let pl : object_places q tag t b a.level ≡ row_places (a.level + 1) t b (list_size q) = rw (e, c) refl in record {
       children = rw ch (pointers_children m a.path a.level a.segment a.word k t b q r f e c);
-      counts = rw ch (counts-at _ _ _ _ _ _ _ _ _ (omega (arith, x)) (omega (arith, l))
+      counts = rw ch (counts-at (omega (arith, x)) (omega (arith, l))
           (pointers-counts m a k t b q low f e c));
       places = rw (ch, pl) (places-row a.path (a.level + 1) Item t b 0 (list_size q));
       few = rw ch (omega (arith, length-row a.path (a.level + 1) Item t b 0 (list_size q), extent_pointers q e c));

@@ -106,7 +106,7 @@ pub object_trail : (m : List (List ℕ)) (seen : List (List Step)) (a : Ahead) (
     → IsTrail m seen (a ∷ ahead) → Finds m a.segment a.word k t b q → (IsComposite q → HasWord m t b tag)
     → IsTrail m (a.path ∷ seen) (object_children a.path q tag t b a.level ++ ahead)
 object_trail m seen a ahead k t b q tag trail f tagged =
-    trail-step _ _ _ _ _ trail (object-brings m a k t b q tag 0 trail.ahead_reached.0 f tagged).children
+    trail-step trail (object-brings m a k t b q tag 0 trail.ahead_reached.0 f tagged).children
 
 -- the first of two paths is apart from the second, which it comes before and which doesn't go on from it
 before_apart : (p q : List Step) → Before p q → ((x : Step) (v : List Step) → q ≡ p ++ x ∷ v → ⊥) → Apart p q
@@ -141,7 +141,7 @@ null_trail m seen p level s w ahead t r null =
   where
     ends : (x : Step) (v : List Step) (l s' w' : ℕ) → Reaches m (p ++ x ∷ v) l s' w' → ⊥
     ends x v l s' w' k =
-        let (mid, n, goes, walks) = beyond m p x v level l s w s' w' r k in
+        let (mid, n, goes, walks) = beyond m p x v s w s' w' r k in
         null_ends m s w 0 (near 0 null (omega arith) refl refl) x v mid n s' w' goes walks
 
     apart : (ahead : List Ahead) → EachApart ahead → Precedes (p ∷ seen) ahead → AreReached m ahead

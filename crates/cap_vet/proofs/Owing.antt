@@ -23,9 +23,9 @@ pub record Parts (m : List (List ℕ)) (xs ys : List Ahead) (c d p k : ℕ) : Ty
   pub pointers : p ≡ p1 + p2
   pub caps : k ≡ k1 + k2
 
-pub append-Owe : (m : List (List ℕ)) (xs ys : List Ahead) (c d p k : ℕ) → Owe m (xs ++ ys) c d p k → Parts m xs ys c d p k
-append-Owe m (a ∷ xs) ys c d p k (t, c1, d1, c2, d2, p2, k2, own, rest, e1, e2, e3, e4) =
-    let r = append-Owe m xs ys c2 d2 p2 k2 rest in record {
+pub append-Owe : {m : List (List ℕ)} (xs : List Ahead) {ys : List Ahead} {c d p k : ℕ} → Owe m (xs ++ ys) c d p k → Parts m xs ys c d p k
+append-Owe (a ∷ xs) (t, c1, d1, c2, d2, p2, k2, own, rest, e1, e2, e3, e4) =
+    let r = append-Owe xs rest in record {
       c1 = c1 + r.c1;
       d1 = max (a.level + d1) r.d1;
       p1 = pointer_count t + r.p1;
@@ -41,7 +41,7 @@ append-Owe m (a ∷ xs) ys c d p k (t, c1, d1, c2, d2, p2, k2, own, rest, e1, e2
       pointers = omega (arith, e3, r.pointers);
       caps = omega (arith, e4, r.caps);
     }
-append-Owe m xs ys c d p k h = search rules
+append-Owe xs h = search rules
 
 -- what is denoted by the pointers of an object that owes this
 pub record RowDenotes (m : List (List ℕ)) (ps : List (ℕ × ℕ)) (level n c d p k : ℕ) : Type 0 where
@@ -54,9 +54,9 @@ pub record RowDenotes (m : List (List ℕ)) (ps : List (ℕ × ℕ)) (level n c 
   pub caps : k ≡ cap_counts trees
 
 -- a row of pointer words denotes what it owes
-pub owes-row : (m : List (List ℕ)) (base : List Step) (level : ℕ) (step : ℕ → Step) (t b i n c d p k : ℕ)
+pub owes-row : {m : List (List ℕ)} (base : List Step) {level : ℕ} (step : ℕ → Step) (t b i n : ℕ) {c d p k : ℕ}
     → Owe m (row base level step t b i n) c d p k → RowDenotes m (places t b n) level n c d p k
-owes-row m base level step t b i zero c d p k (e1, e2, e3, e4) = record {
+owes-row base step t b i zero (e1, e2, e3, e4) = record {
   trees = none;
   deep = 0;
   denote = (refl, e1, refl);
@@ -65,8 +65,8 @@ owes-row m base level step t b i zero c d p k (e1, e2, e3, e4) = record {
   pointers = e3;
   caps = e4;
 }
-owes-row m base level step t b i (suc n) c d p k (x, c1, d1, c2, d2, p2, k2, own, rest, e1, e2, e3, e4) =
-    let r = owes-row m base level step t (b + 1) (i + 1) n c2 d2 p2 k2 rest in record {
+owes-row base step t b i (suc n) (x, c1, d1, c2, d2, p2, k2, own, rest, e1, e2, e3, e4) =
+    let r = owes-row base step t (b + 1) (i + 1) n rest in record {
       trees = more x r.trees;
       deep = max d1 r.deep;
       denote = (t, b, places t (b + 1) n, c1, d1, c2, r.deep, refl, own, r.denote, e1, refl);
@@ -88,9 +88,9 @@ pub record ElementsAre (m : List (List ℕ)) (t b ds ps n level c d p k : ℕ) :
   pub caps : k ≡ cap_counts elements
 
 -- the elements of a list of structs are what they owe
-pub owes-elements : (m : List (List ℕ)) (base : List Step) (level t b ds ps i n c d p k : ℕ)
+pub owes-elements : {m : List (List ℕ)} (base : List Step) {level t ds ps : ℕ} (b i n : ℕ) {c d p k : ℕ}
     → Owe m (element_rows base level t b ds ps i n) c d p k → ElementsAre m t b ds ps n level c d p k
-owes-elements m base level t b ds ps i zero c d p k (e1, e2, e3, e4) = record {
+owes-elements base b i zero (e1, e2, e3, e4) = record {
   elements = none;
   deep = 0;
   are = (refl, e1, refl);
@@ -100,10 +100,10 @@ owes-elements m base level t b ds ps i zero c d p k (e1, e2, e3, e4) = record {
   pointers = e3;
   caps = e4;
 }
-owes-elements m base level t b ds ps i (suc n) c d p k h =
-    let parts = append-Owe _ _ _ _ _ _ _ h in
-    let a = owes-row m (base ++ Item i ∷ []) level Ptr t (b + ds) 0 ps parts.c1 parts.d1 parts.p1 parts.k1 parts.first in
-    let r = owes-elements m base level t (b + ds + ps) ds ps (i + 1) n parts.c2 parts.d2 parts.p2 parts.k2 parts.second in record {
+owes-elements {m} base {t} {ds} {ps} b i (suc n) h =
+    let parts = append-Owe _ h in
+    let a = owes-row (base ++ Item i ∷ []) Ptr t (b + ds) 0 ps parts.first in
+    let r = owes-elements base (b + ds + ps) (i + 1) n parts.second in record {
       elements = more (struct (words_from m t b ds) a.trees) r.elements;
       deep = max a.deep r.deep;
       are = (n, parts.c1, a.deep, parts.c2, r.deep, refl, refl, a.denote, r.are, parts.charge, refl);

@@ -22,7 +22,7 @@ pub passes_on : (m : List (List ℕ)) (words depth : ℕ) (runs : List PointerRu
     → Passes m words depth runs seen old before f r → Passes m words depth runs seen old before (after f) (counted r)
 passes_on m words depth runs seen old f before r left null passed =
     let rest : IsRest f (Some (after f)) = rest_of_row f.segment f.at f.more f.data_words f.pointers f.level left in
-    let (next, same_seen) = next_seen _ _ _ _ _ _ _ _ _ passed.walks rest in
+    let (next, same_seen) = next_seen runs passed.walks rest in
     let looked : IsLooked m words depth r.charge f.segment f.at f.level (Null 0) = (near 0 null (omega arith) refl refl, omega (arith, next.progress.within)) in
     let (later, turned) = walks_on m words depth f.segment f.at f.level (runs ++ after f ∷ []) r (Null 0) next looked in
     let same : r.charge + 0 ≡ r.charge = omega arith in

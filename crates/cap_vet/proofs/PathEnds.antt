@@ -33,14 +33,14 @@ known m words depth path at false e =
       on_path = subst (λ x. AreOnPath m x h.ways) (sym e.whole) on;
       lax = search (rules, lax_same);
       left = words - at.consumed;
-      charges = charges_no_node m words depth e.done e.rest path e.step e.spot at (sym e.whole) h e.no_node;
+      charges = charges_no_node e.rest e.step (sym e.whole) h e.no_node;
     }
 
 -- Nothing is at the path.
 pub nothing_at : (m : List (List ℕ)) (words depth : ℕ) (path : List Step) (at : Arrival)
     → EndsEarly m words depth path at → (k : Kind) (t b n : ℕ) → ¬ PathFinds m path k t b n
 nothing_at m words depth path at e k t b n =
-    arrives_no_node m words depth e.done e.rest path e.step e.spot at e.whole e.arrives e.no_node k t b n
+    arrives_no_node e.rest e.step e.whole e.arrives e.no_node k t b n
 
 -- Something is.
 pub something_at : (m : List (List ℕ)) (words depth : ℕ) (path : List Step) (at : Arrival) (a : Spot)

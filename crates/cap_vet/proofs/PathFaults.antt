@@ -15,7 +15,7 @@ use Rattle.cap_vet.specs.VetNames.{IsPathFault, MeetsOnPath, Demands}
 kept_not_refused : (m : List (List ℕ)) (words depth : ℕ) (path : List Step) (r : Refusal) → KeepsToLimits m words depth path
     → IsRefusedOnPath m words depth path r → ⊥
 kept_not_refused m words depth path r (left, k) refused =
-    path_not_refused _ _ _ _ _ _ _ k.on_path k.some k.costs k.shallow (omega (arith, k.consumed)) refused
+    path_not_refused m words depth path _ _ r k.on_path k.some k.costs k.shallow (omega (arith, k.consumed)) refused
 
 -- the first one on a path is one of them
 first_is_lax : (m : List (List ℕ)) (path : List Step) (s w : ℕ) (what : Lax) (n : ℕ)

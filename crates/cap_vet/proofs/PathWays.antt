@@ -28,10 +28,10 @@ step_no_node m words depth path rest step a at h none =
     record { done = path; step = step; rest = rest; spot = a; whole = refl; arrives = h; no_node = none }
 
 -- is refused,
-pub step_refused : (m : List (List ℕ)) (words depth : ℕ) (path rest : List Step) (step : Step) (r : Refusal)
+pub step_refused : {m : List (List ℕ)} {words depth : ℕ} (path rest : List Step) (step : Step) {r : Refusal}
     → IsFaultOnPath m words depth (path ++ step ∷ []) r → IsRefusedOnPath m words depth (path ++ step ∷ rest) r
-step_refused m words depth path rest step r f =
-    inr (fault_longer _ _ _ _ _ _ _ (append_assoc path (step ∷ []) rest) f)
+step_refused path rest step f =
+    inr (fault_longer rest (append_assoc path (step ∷ []) rest) f)
 
 -- or leads on.
 pub step_on : (m : List (List ℕ)) (words depth : ℕ) (path rest : List Step) (step : Step) (way : Way)
@@ -108,14 +108,14 @@ done_steps first done steps more e f =
     ap (λ (ss : List Step). first ++ ss) (sym (e ∙ ap (λ (ss : List Step). done ++ ss) f ∙ append-nil done))
 
 -- After the first steps the path gives what it gives as a whole.
-pub given_after : {M : Type 0} {g : segments.Ghosts M} (m : List (List ℕ)) (start : PathStart M g) (step : Step) (rest : List Step) (way : Way)
-    (result : Result (Option (View M g)) StrictRefusal)
+pub given_after : {M : Type 0} {g : segments.Ghosts M} {m : List (List ℕ)} {start : PathStart M g} (step : Step) (rest : List Step) (way : Way)
+    {result : Result (Option (View M g)) StrictRefusal}
     → ((words depth : ℕ) (path : List Step) → IsWay m (words_under start.demands m words) depth path way
     → IsGiven start.demands m words depth path result)
     → ((first : List Step) → IsWay m start.words start.depth first start.way
     → IsWay m start.words start.depth (first ++ step ∷ rest) way)
     → GivesAfter m start step rest result
-given_after m start step rest way result given on = λ demands words depth first is.
+given_after {m} {start} step rest way {result} given on = λ demands words depth first is.
     let path = first ++ step ∷ rest in
     let limit : start.words ≡ words_under start.demands m words = is.limit ∙ ap (λ (d : Demands). words_under d m words) (sym is.under) in
     let leads : IsWay m (words_under start.demands m words) depth path way = way_as m path way limit is.deepest (on first is.way) in

@@ -29,11 +29,11 @@ high-rest : (level : ℕ) (r : Option PointerRun) (runs : List PointerRun) → l
 high-rest level r runs h = search rules
 
 -- The first word of the topmost run is the next to look at, and what was looked at stays.
-pub next_seen : (m : List (List ℕ)) (words depth : ℕ) (runs : List PointerRun) (f : PointerRun) (r : Option PointerRun)
-    (report : Report) (seen : List (List Step))
-    (aheads : List Ahead) → HasWalked m words depth (runs ++ f ∷ []) report seen aheads → IsRest f r
+pub next_seen : {m : List (List ℕ)} {words depth : ℕ} (runs : List PointerRun) {f : PointerRun} {r : Option PointerRun}
+    {report : Report} {seen : List (List Step)} {aheads : List Ahead}
+    → HasWalked m words depth (runs ++ f ∷ []) report seen aheads → IsRest f r
     → (n : IsNext m words depth f.segment f.at f.level (runs ++ option_to_list r) report) × (n.seen ≡ seen)
-next_seen m words depth runs f r report seen aheads w rest =
+next_seen runs {f} {r} {aheads} w rest =
     let e : reverse (runs ++ f ∷ []) ≡ f ∷ reverse runs = reverse-append runs (f ∷ []) in
     let places : map pointer_word_of aheads ≡ spots f ++ all_spots (reverse runs) = rw e at w.places in
     let more = reverse-more runs r in
@@ -47,7 +47,7 @@ pub next_at : (m : List (List ℕ)) (limits : Limits) (runs : List PointerRun) (
     (report : Report) (K : List (List Step) → Type 0)
     → IsWalking m limits (runs ++ f ∷ []) report K → IsRest f r → IsAt m limits f.segment f.at f.level (runs ++ option_to_list r) report K
 next_at m limits runs f r report K w rest =
-    let n = next_seen m (words_of limits) (depth_of limits) runs f r report w.seen w.ahead w.walks rest in
+    let n = next_seen runs w.walks rest in
     record { next = n.0; known = subst K (sym n.1) w.known }
 
 -- Looking at the next word keeps the walk, and that word is the last that was looked at.
@@ -76,8 +76,7 @@ walks_on m words depth s w level runs report (looked.Object cost deep below plac
     let children : List Ahead = object_children t.a.path q tag u b t.a.level in
     let within : report.charge + (k + extent q + extra q tag) ≤ words = omega (arith, o.within, o.charge) in
     let shallow : t.a.level + levels_below q tag ≤ depth = omega (arith, o.shallow, o.deepest, t.leads_to) in
-    let done = turn_object _ _ _ _ _ _ _ _ _ _ _ _ _ _ _ _ t.progress (rw (t.segment, t.at) o.finds) o.tagged within
-    shallow in
+    let done = turn_object t.progress (rw (t.segment, t.at) o.finds) o.tagged within shallow in
     search (rules, map-append, object_places-children, reverse-more, spots-more, inside-more)
 
 -- a word has no more words below it than it costs
@@ -118,9 +117,9 @@ pub turned : (m : List (List ℕ)) (limits : Limits) (runs left more : List Poin
 turned m limits runs left more f r report after K k e h = search (rules, work_rest)
 
 -- a word that was looked at has this cost
-pub looked_costs : (m : List (List ℕ)) (words depth consumed s w level : ℕ) (l : Looked) → IsLooked m words depth consumed s w level l → Costs m s w (cost_of l)
-looked_costs m words depth consumed s w level (looked.Null cost) h = inl h.0
-looked_costs m words depth consumed s w level l h = search rules
+pub looked_costs : {m : List (List ℕ)} (words depth consumed : ℕ) {s w : ℕ} (level : ℕ) (l : Looked) → IsLooked m words depth consumed s w level l → Costs m s w (cost_of l)
+looked_costs words depth consumed level (looked.Null cost) h = inl h.0
+looked_costs words depth consumed level l h = search rules
 
 -- The next word was looked at, and is the last so far. Below it is this run, and less is left of the walk.
 pub record HasVisited (m : List (List ℕ)) (limits : Limits) (s w level : ℕ) (runs : List PointerRun) (before : Report)
@@ -152,12 +151,12 @@ known_past m K [] seen pass h k = k
 known_past m K (p ∷ nulls) seen pass ((level, s, w, r, has), h) k = pass (nulls ++ seen) p level s w r has (known_past m K nulls seen pass h k)
 
 -- A step goes on with what the turn at the first word of the run leaves.
-pub steps_on : (m : List (List ℕ)) (limits : Limits) (runs : List PointerRun) (f : PointerRun) (report after : Report)
-    (K L : List (List Step) → Type 0) (below : Option PointerRun) (next : Next) (items : List PointerRun) (new : PointerRun)
+pub steps_on : {m : List (List ℕ)} {limits : Limits} {runs : List PointerRun} {f : PointerRun} {report after : Report}
+    {K L : List (List Step) → Type 0} {below : Option PointerRun} {next : Next} {items : List PointerRun} {new : PointerRun}
     → IsWalking m limits (runs ++ f ∷ []) report K
     → ((rs : List PointerRun) → IsAt m limits f.segment f.at f.level rs report K → GoesOnBelow m limits rs below report after L)
     → Continues next runs f below items new → GoesOnWith m limits next runs f report items new after L
-steps_on m limits runs f report after K L below next items new w turn c = search (rules, next_at, turned)
+steps_on w turn c = search (rules, next_at, turned)
 
 -- A null word was looked at, with nothing below it.
 pub null_visited : (m : List (List ℕ)) (limits : Limits) (s w level : ℕ) (runs : List PointerRun) (report : Report)

@@ -50,7 +50,7 @@ cap-counts m a k i low h up near = record {
 pub struct-counts : (m : List (List ℕ)) (a : Ahead) (k t b q low : ℕ) → Finds m a.segment a.word k t b q → kind q ≡ 0
     → Counts m a (row a.path (a.level + 1) Ptr t (b + data_size q) 0 (pointer_size q)) (k + extent q) low (max low a.level) 0
 struct-counts m a k t b q low f is_struct = let object = struct_found m a.segment a.word k t b q f is_struct in record {
-  build = λ c top p k' owe. let r = owes-row _ _ _ _ _ _ _ _ _ _ _ _ owe in record {
+  build = λ c top p k' owe. let r = owes-row a.path Ptr t (b + data_size q) 0 (pointer_size q) owe in record {
     tree = struct (words_from m t b (data_size q)) r.trees;
     depth = 1 + r.deep;
     denotes = search (rules, struct_extra, struct_levels);
@@ -87,7 +87,7 @@ scalars-counts m a k t b q low f is_list below = let object = scalars_found m a.
 pub pointers-counts : (m : List (List ℕ)) (a : Ahead) (k t b q low : ℕ) → Finds m a.segment a.word k t b q → kind q ≡ 1 → code q ≡ 6
     → Counts m a (row a.path (a.level + 1) Item t b 0 (list_size q)) (k + extent q) low (max low a.level) 0
 pointers-counts m a k t b q low f is_list is_pointers = record {
-  build = λ c top p k' owe. let r = owes-row m a.path (a.level + 1) Item t b 0 (list_size q) c top p k' owe in record {
+  build = λ c top p k' owe. let r = owes-row a.path Item t b 0 (list_size q) owe in record {
     tree = pointers r.trees;
     depth = 1 + r.deep;
     denotes = search (rules, pointers_extra, pointers_levels);
@@ -107,7 +107,7 @@ pub structs-counts : (m : List (List ℕ)) (a : Ahead) (k t b q tag low : ℕ) �
     → Counts m a (element_rows a.path (a.level + (element_levels 1 + 1)) t (b + 1) (data_size tag) (pointer_size tag) 0
     (middle tag)) (k + extent q + extra q tag) low (max low (a.level + element_levels (middle tag))) 0
 structs-counts m a k t b q tag low f is_list is_structs has = let object = structs_found m a.segment a.word k t b q f tag is_list is_structs has in record {
-  build = λ c top p k' owe. let r = owes-elements _ _ _ _ _ _ _ _ _ _ _ _ _ owe in record {
+  build = λ c top p k' owe. let r = owes-elements a.path (b + 1) 0 (middle tag) owe in record {
     tree = structs (data_size tag) (pointer_size tag) r.elements;
     depth = 1 + element_levels (middle tag) + r.deep;
     denotes = search (rules, structs_levels);

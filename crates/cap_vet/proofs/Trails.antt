@@ -65,9 +65,9 @@ reached-step m seen a ahead t q (inl e) = (a.level, a.segment, a.word, rw e t.ah
 reached-step m seen a ahead t q (inr h) = t.seen_reached q h
 
 -- The first word ahead is looked at, and its children come before the others.
-pub trail-step : (m : List (List ℕ)) (seen : List (List Step)) (a : Ahead) (children ahead : List Ahead)
+pub trail-step : {m : List (List ℕ)} {seen : List (List Step)} {a : Ahead} {children ahead : List Ahead}
     → IsTrail m seen (a ∷ ahead) → AreChildren m a.path children → IsTrail m (a.path ∷ seen) (children ++ ahead)
-trail-step m seen a children ahead t c = record {
+trail-step {m} {seen} {a} {children} {ahead} t c = record {
   falls = falls-step a seen ahead t.falls t.precedes;
   precedes = precedes-step a seen children ahead t.apart c.go_on;
   apart = apart-step a children ahead t.apart c.apart c.go_on;

@@ -40,9 +40,9 @@ pub cap_ends : (m : List (List ℕ)) (s w k i : ℕ) → Leads m s w k (to_cap i
 cap_ends m s w k i h x v mid n s' w' g walks = search (rules, cap_no_object)
 
 -- one more path that costs this much
-pub costs_on : (m : List (List ℕ)) (p : List Step) (seen : List (List Step)) (level s w cost charge : ℕ)
+pub costs_on : {m : List (List ℕ)} (p : List Step) (seen : List (List Step)) {level s w cost : ℕ} (charge : ℕ)
     → Reaches m p level s w → Costs m s w cost → CostOf m seen charge → CostOf m (p ∷ seen) (charge + cost)
-costs_on m p seen level s w cost charge r c rest = (level, s, w, cost, charge, r, c, rest, omega arith)
+costs_on p seen {level} {s} {w} {cost} charge r c rest = (level, s, w, cost, charge, r, c, rest, omega arith)
 
 -- one more path that isn't too deep
 pub shallow_on : (m : List (List ℕ)) (depth level s w : ℕ) (p : List Step) (seen : List (List Step))
@@ -88,13 +88,13 @@ pub turn_null : (m : List (List ℕ)) (words depth charge deepest pointers caps 
 turn_null m words depth charge deepest pointers caps cost first seen a ahead t h within =
     let r = t.trail.ahead_reached.0 in
     let e : caps + 0 ≡ caps = omega arith in record {
-      trail = trail-step m seen a [] ahead t.trail (no_children _ _ _ _ _ r (null_ends m a.segment a.word cost h));
+      trail = trail-step t.trail (no_children r (null_ends m a.segment a.word cost h));
       count = rw (← e) (count-step m record { charge = charge; depth = deepest; pointers = pointers; caps = caps } a
           [] ahead cost deepest 0 t.count (null-counts m a cost deepest h t.near.0 t.near.1));
       near = t.near.2;
       within = within;
       shallow = t.shallow;
-      costs = costs_on m a.path seen a.level a.segment a.word cost charge r (inl h) t.costs;
+      costs = costs_on a.path seen charge r (inl h) t.costs;
       levels = shallow_on m depth a.level a.segment a.word a.path seen r (search (rules, null_no_object)) t.levels;
       number = omega (arith, t.number);
       bound = omega (arith, t.bound);
@@ -111,13 +111,13 @@ pub turn_cap : (m : List (List ℕ)) (words depth charge deepest pointers caps c
     → Progress m words depth (charge + cost) deepest (pointers + 1) (caps + 1) (or_place first a.segment a.word) (a.path ∷ seen) ahead
 turn_cap m words depth charge deepest pointers caps cost i first seen a ahead t h within =
     let r = t.trail.ahead_reached.0 in record {
-      trail = trail-step m seen a [] ahead t.trail (no_children m a.path a.level a.segment a.word r (cap_ends m a.segment a.word cost i h));
+      trail = trail-step t.trail (no_children r (cap_ends m a.segment a.word cost i h));
       count = count-step m record { charge = charge; depth = deepest; pointers = pointers; caps = caps } a [] ahead cost
           deepest 1 t.count (cap-counts m a cost i deepest h t.near.0 t.near.1);
       near = t.near.2;
       within = within;
       shallow = t.shallow;
-      costs = costs_on m a.path seen a.level a.segment a.word cost charge r (inr (inl (i, h))) t.costs;
+      costs = costs_on a.path seen charge r (inr (inl (i, h))) t.costs;
       levels = shallow_on m depth a.level a.segment a.word a.path seen r (search (rules, cap_no_object)) t.levels;
       number = omega (arith, t.number);
       bound = omega (arith, t.bound);
@@ -131,18 +131,18 @@ pub deep_once : (m : List (List ℕ)) (depth s w level k t b q tag : ℕ) → Fi
 deep_once m k s w e g a b c d f i h j = search (rules, one_object, one_word, lead_kind)
 
 -- a turn at an object
-pub turn_object : (m : List (List ℕ)) (words depth charge deepest pointers caps k t b q tag : ℕ)
-    (first : Option (ℕ × ℕ)) (seen : List (List Step)) (a : Ahead) (ahead : List Ahead)
+pub turn_object : {m : List (List ℕ)} {words depth charge deepest pointers caps k t b q tag : ℕ}
+    {first : Option (ℕ × ℕ)} {seen : List (List Step)} {a : Ahead} {ahead : List Ahead}
     → Progress m words depth charge deepest pointers caps first seen (a ∷ ahead) → Finds m a.segment a.word k t b q → (IsComposite q → HasWord m t b tag)
     → charge + (k + extent q + extra q tag) ≤ words → a.level + levels_below q tag ≤ depth
     → Progress m words depth (charge + (k + extent q + extra q tag)) (max deepest (a.level + levels_below q tag))
     (pointers + 1) caps first (a.path ∷ seen) (object_children a.path q tag t b a.level ++ ahead)
-turn_object m words depth charge deepest pointers caps k t b q tag first seen a ahead h f tagged within shallow =
+turn_object {m} {depth} {charge} {deepest} {pointers} {caps} {k} {t} {b} {q} {tag} {first} {seen} {a} {ahead} h f tagged within shallow =
     let r = h.trail.ahead_reached.0 in
     let o = object-brings m a k t b q tag deepest r f tagged in
     let children : List Ahead = object_children a.path q tag t b a.level in
     let e : caps + 0 ≡ caps = omega arith in record {
-      trail = trail-step m seen a children ahead h.trail o.children;
+      trail = trail-step h.trail o.children;
       count = rw (← e) (count-step m record { charge = charge; depth = deepest; pointers = pointers; caps = caps } a
           children ahead (k + extent q + extra q tag) (max deepest (a.level + levels_below q tag)) 0 h.count
           o.counts);
@@ -150,7 +150,7 @@ turn_object m words depth charge deepest pointers caps k t b q tag first seen a 
           (near-deeper deepest (max deepest (a.level + levels_below q tag)) ahead (omega arith) h.near.2);
       within = within;
       shallow = omega (arith, h.shallow, shallow);
-      costs = costs_on _ _ _ _ _ _ _ _ r (inr (inr (k, t, b, q, tag, f, tagged, refl))) h.costs;
+      costs = costs_on a.path seen charge r (inr (inr (k, t, b, q, tag, f, tagged, refl))) h.costs;
       levels = shallow_on m depth a.level a.segment a.word a.path seen r (search (rules, deep_once)) h.levels;
       number = omega (arith, h.number);
       bound = omega (arith, h.bound, o.few, length-append children ahead);

@@ -12,7 +12,7 @@ pub returns-in_default-clause-accepts : goal.returns-in_default-clause-accepts
 returns-in_default-clause-accepts g c = search (rules, only_memory)
 
 pub returns-in_default-clause-names : goal.returns-in_default-clause-names
-returns-in_default-clause-names g c = λ s w n met first. elim (only_overlap _ _ _ _ c.without_marks-in_default.result
+returns-in_default-clause-names g c = λ s w n met first. elim (only_overlap c.args.demands _ _ _ c.without_marks-in_default.result
     s w n c.without_marks-in_default.ensures met first) [ inl e ↦ inl (ap Err e) | inr e ↦ inr (ap Err e) ]
 
 pub returns-in-Ok-default-None-clause-bound : goal.returns-in-Ok-default-None-clause-bound

@@ -8,7 +8,7 @@ use Rattle.cap_vet.proofs.nodes.charged.get_charged.Goals as goal
 
 pub returns-in-Err-clause-accepts : goal.returns-in-Err-clause-accepts
 returns-in-Err-clause-accepts g c = λ ways cost on some costs shallow within.
-    absurd (path_not_refused _ _ _ _ _ _ _ on some costs shallow within (c.in-Err.ensures.err c.args.path.now))
+    absurd (path_not_refused _ _ _ c.args.path.now ways cost _ on some costs shallow within (c.in-Err.ensures.err c.args.path.now))
 
 pub returns-in-Err-clause-refuses : goal.returns-in-Err-clause-refuses
 returns-in-Err-clause-refuses g c = λ r refused. ap Err
@@ -22,12 +22,12 @@ returns-in-Ok-None-clause-ok g c =
     let lt : i < length path = omega (arith, c.loop-step-test.true) in
     let h = c.loop-step.invariant.arrived in
     let none = rw c.in-Ok-None.field-0-is at (c.in-Ok-None.ensures.none (take i path) h.0 h.1) in
-    charges_no_node _ _ _ _ _ _ _ _ _ (sym (split_at path i (Ptr 0) lt)) h.1 none
+    charges_no_node _ _ (sym (split_at path i (Ptr 0) lt)) h.1 none
 
 pub returns-in-Ok-None-clause-refuses : goal.returns-in-Ok-None-clause-refuses
 returns-in-Ok-None-clause-refuses g c = λ r refused.
     (let k = returns-in-Ok-None-clause-ok g c in
-    absurd (path_not_refused _ _ _ _ _ _ _ k.on_path k.some k.costs k.shallow (omega (arith, k.consumed)) refused))
+    absurd (path_not_refused _ _ _ c.args.path.now _ _ r k.on_path k.some k.costs k.shallow (omega (arith, k.consumed)) refused))
 
 pub returns-in-Ok-None-clause-none : goal.returns-in-Ok-None-clause-none
 returns-in-Ok-None-clause-none g c =
@@ -37,7 +37,7 @@ returns-in-Ok-None-clause-none g c =
     let lt : i < length path = omega (arith, c.loop-step-test.true) in
     let h = c.loop-step.invariant.arrived in
     let none = rw c.in-Ok-None.field-0-is at (c.in-Ok-None.ensures.none (take i path) h.0 h.1) in
-    arrives_no_node _ _ _ _ _ _ _ _ _ (split_at path i (Ptr 0) lt) h.1 none
+    arrives_no_node _ _ (split_at path i (Ptr 0) lt) h.1 none
 
 pub returns-in-Err-step-clause-err : goal.returns-in-Err-step-clause-err
 returns-in-Err-step-clause-err g c =
@@ -49,11 +49,11 @@ returns-in-Err-step-clause-err g c =
     let h = c.loop-step.invariant.arrived in
     let whole : (take i path ++ step ∷ []) ++ drop (suc i) path ≡ path = append_assoc (take i path) (step ∷ [])
     (drop (suc i) path) ∙ sym (split_at path i (Ptr 0) lt) in
-    inr (fault_longer _ _ _ _ _ _ _ whole (c.in-Err-step.ensures.err (take i path) h.0 h.1))
+    inr (fault_longer _ whole (c.in-Err-step.ensures.err (take i path) h.0 h.1))
 
 pub returns-in-Err-step-clause-accepts : goal.returns-in-Err-step-clause-accepts
 returns-in-Err-step-clause-accepts g c = λ ways cost on some costs shallow within.
-    absurd (path_not_refused _ _ _ _ _ _ _ on some costs shallow within (returns-in-Err-step-clause-err g c))
+    absurd (path_not_refused _ _ _ c.args.path.now ways cost _ on some costs shallow within (returns-in-Err-step-clause-err g c))
 
 pub returns-in-Err-step-clause-refuses : goal.returns-in-Err-step-clause-refuses
 returns-in-Err-step-clause-refuses g c = λ r refused. ap Err

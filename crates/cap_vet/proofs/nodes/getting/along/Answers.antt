@@ -54,15 +54,14 @@ returns-in-Ok-None-clause-way g c = λ first steps a arrives left.
 
 pub returns-in-Err-clause-way : goal.returns-in-Err-clause-way
 returns-in-Err-clause-way g c = λ first steps a arrives left.
-    let m = g.M.Segments.segments c.args.message.now in
     let h = c.loop-step.invariant in
     let step = c.in-Some.step in
     let x = h.1 first a arrives in
     let k = h.2 steps left in
     let n = step_given g.S.StepSource.gives c.loop-step.left c.next_step.new.self c.next_step.result step k.0 c.in-Some.is
     c.next_step.ensures.some c.next_step.ensures.none k.2 in
-    rw (← all_steps first h.0 steps k.0 n.0 step k.1 n.1) (step_refused m c.args.words c.args.depth (first ++ h.0) n.0
-    step c.in-Err.refusal (c.in-Err.ensures.err (first ++ h.0) x.0 x.1))
+    rw (← all_steps first h.0 steps k.0 n.0 step k.1 n.1)
+    (step_refused (first ++ h.0) n.0 step (c.in-Err.ensures.err (first ++ h.0) x.0 x.1))
 
 pub returns-clause-way : goal.returns-clause-way
 returns-clause-way g c = λ first steps a arrives left.
@@ -86,11 +85,10 @@ returns-in-Ok-None-clause-leads g c =
 
 pub returns-in-Err-clause-leads : goal.returns-in-Err-clause-leads
 returns-in-Err-clause-leads g c =
-    let m = g.M.Segments.segments c.args.message.now in
     let h = c.loop-step.invariant in
     let step = c.in-Some.step in
     ∥∥₁_map c.requires.arrived (λ r.
     let x = h.1 r.0 r.1 r.2 in (
       (r.0 ++ h.0) ++ step ∷ [],
-      step_refused _ _ _ _ _ _ _ (c.in-Err.ensures.err (r.0 ++ h.0) x.0 x.1),
+      step_refused (r.0 ++ h.0) [] step (c.in-Err.ensures.err (r.0 ++ h.0) x.0 x.1),
     ))

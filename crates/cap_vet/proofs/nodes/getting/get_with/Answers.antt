@@ -16,6 +16,6 @@ returns g c =
       some = λ steps left. (given steps left).some;
       message = search rules;
       err = λ steps left. (given steps left).err;
-      accepts = λ steps left. given_accepts _ _ _ _ steps _ (given steps left);
-      refuses = λ steps r left. given_refuses _ _ _ _ steps _ r (given steps left);
+      accepts = λ steps left. given_accepts c.args.demands _ _ _ steps _ (given steps left);
+      refuses = λ steps r left. given_refuses c.args.demands _ _ _ steps _ r (given steps left);
     }

@@ -25,7 +25,7 @@ pub returns-else-pointers-eq0-clause-places : goal.returns-else-pointers-eq0-cla
 returns-else-pointers-eq0-clause-places c = λ m s w q tag f.
     let at_start : c.args.target.now.start + 1 + c.from-in-Structs.result ≡ c.args.target.now.start + 1
     + c.in-Structs.data_words = omega (arith, c.from-in-Structs.ensures) in
-    structs_places _ _ _ _ _ _ _ (rw c.in-Structs.is at f) at_start c.from-in-Structs-2.ensures (omega arith)
+    structs_places c.args.level (rw c.in-Structs.is at f) at_start c.from-in-Structs-2.ensures (omega arith)
     c.from-in-Structs-3.ensures c.from-in-Structs-4.ensures (omega (arith, c.if-count-eq0.false)) (search rules)
 
 pub returns-else-pointers-eq0-clause-inside : goal.returns-else-pointers-eq0-clause-inside

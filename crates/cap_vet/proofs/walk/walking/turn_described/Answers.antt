@@ -11,7 +11,7 @@ pub after-requires-clause-known : goal.after-requires-clause-known
 after-requires-clause-known g c =
     let n = c.requires.1.next in
     let v = visited {limits = c.args.limits.now} c.requires.0 _ n c.in-Some.ensures.looked in
-    let costs = looked_costs _ _ _ _ _ _ _ _ c.in-Some.ensures.looked in
+    let costs = looked_costs _ _ c.args.report.now.charge _ _ c.in-Some.ensures.looked in
     (n.seen, n.a, rw (c.add-below.ensures.report, c.cost-cost.ensures) (looked_at n v.walks costs), c.requires.1.known)
 
 pub returns-then-word-eq0-clause-ok : goal.returns-then-word-eq0-clause-ok
@@ -34,6 +34,6 @@ pub returns-in-Ok-clause-ok : goal.returns-in-Ok-clause-ok
 returns-in-Ok-clause-ok g c = λ runs at.
     let n = at.next in
     let v = visited {limits = c.args.limits.now} runs _ n c.in-Some.ensures.looked in
-    let costs = looked_costs (g.M.Segments.segments c.args.message.now) _ _ _ c.args.s c.args.w _ _ c.in-Some.ensures.looked in
+    let costs = looked_costs _ _ c.args.report.now.charge _ _ c.in-Some.ensures.looked in
     let known = c.in-Ok.ensures.ok n.seen n.a (rw (c.add-below.ensures.report, c.cost-cost.ensures) (looked_at n v.walks costs)) at.known in
     search (rules, known)

@@ -23,7 +23,7 @@ after-requires-clause-known g c =
     let at = next_at _ _ c.args.stack.now.items c.args.run.now _ _ _ c.requires.walking rest.1 in
     let n = at.next in
     let v = visited {limits = c.args.limits.now} (c.args.stack.now.items ++ option_to_list rest.0) _ n c.in-Ok.ensures.ok in
-    let costs = looked_costs _ _ _ _ _ _ _ _ c.in-Ok.ensures.ok in
+    let costs = looked_costs _ _ c.args.report.now.charge _ _ c.in-Ok.ensures.ok in
     (n.seen, n.a, rw (c.add-below.ensures.report, c.cost-cost.ensures) (looked_at n v.walks costs), at.known)
 
 pub after-requires-clause-object : goal.after-requires-clause-object
@@ -36,10 +36,10 @@ go_on-requires g c =
 
 pub returns-in-Ok-after : goal.returns-in-Ok-after
 returns-in-Ok-after g c = record {
-  ok = steps_on _ _ _ _ _ _ _ _ _ _ _ _ c.requires.walking (λ runs at.
+  ok = steps_on c.requires.walking (λ runs at.
       let n = at.next in
       let v = visited {limits = c.args.limits.now} runs _ n c.in-Ok.ensures.ok in
-      let costs = looked_costs _ _ _ _ _ _ _ _ c.in-Ok.ensures.ok in
+      let costs = looked_costs _ _ c.args.report.now.charge _ _ c.in-Ok.ensures.ok in
       let known = c.in-Ok-after.ensures.ok n.seen n.a (rw (c.add-below.ensures.report, c.cost-cost.ensures) (looked_at n v.walks costs)) at.known in
       rw (c.add-below.ensures.run, c.add-below.ensures.report) (search (rules, known))) c.go_on.ensures.runs;
   fits = c.go_on.ensures.fits;

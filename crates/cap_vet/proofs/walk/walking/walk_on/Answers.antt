@@ -28,14 +28,14 @@ turn_other-requires g c = grind (arith, common_steps)
 pub pass_nulls-requires : goal.pass_nulls-requires
 pass_nulls-requires g c =
     let m = g.M.Segments.segments c.args.message.now in
-    let on = rw c.in-More.is at (steps_on _ _ _ _ _ _ _ _ _ _ _ _ c.walk.invariant.walking
+    let on = rw c.in-More.is at (steps_on c.walk.invariant.walking
     (λ runs at. rw c.in-Some-Ok.field-0-is at (c.in-Some-Ok.ensures.ok runs at)) c.go_on.ensures.runs) in
     (_, _, c.go_on.new.stack.items, on.walking.seen, on.walking.ahead, on.walking.walks)
 
 pub walk-preserved-then-is_null : goal.walk-preserved-then-is_null
 walk-preserved-then-is_null g c =
     let m = g.M.Segments.segments c.args.message.now in
-    let on = rw c.in-More.is at (steps_on _ _ _ _ _ _ _ _ _ _ _ _ c.walk.invariant.walking
+    let on = rw c.in-More.is at (steps_on c.walk.invariant.walking
     (λ runs at. rw c.in-Some-Ok.field-0-is at (c.in-Some-Ok.ensures.ok runs at)) c.go_on.ensures.runs) in
     let passed = c.pass_nulls.ensures (words_of c.args.limits.now) (depth_of c.args.limits.now) c.go_on.new.stack.items _ _ on.walking.walks in
     let known = known_past m (g.T.Turn.knows c.turn_described.new.turn m) passed.nulls on.walking.seen
@@ -48,7 +48,7 @@ walk-preserved-then-is_null g c =
 pub walk-smaller-then-is_null : goal.walk-smaller-then-is_null
 walk-smaller-then-is_null g c =
     let m = g.M.Segments.segments c.args.message.now in
-    let on = rw c.in-More.is at (steps_on _ _ _ _ _ _ _ _ _ _ _ _ c.walk.invariant.walking
+    let on = rw c.in-More.is at (steps_on c.walk.invariant.walking
     (λ runs at. rw c.in-Some-Ok.field-0-is at (c.in-Some-Ok.ensures.ok runs at)) c.go_on.ensures.runs) in
     let passed = c.pass_nulls.ensures (words_of c.args.limits.now) (depth_of c.args.limits.now) c.go_on.new.stack.items _ _ on.walking.walks in
     omega (arith, on.less, passed.less)
@@ -56,28 +56,28 @@ walk-smaller-then-is_null g c =
 pub walk-preserved-else-is_null : goal.walk-preserved-else-is_null
 walk-preserved-else-is_null g c =
     let m = g.M.Segments.segments c.args.message.now in
-    let on = rw c.in-More.is at (steps_on _ _ _ _ _ _ _ _ _ _ _ _ c.walk.invariant.walking
+    let on = rw c.in-More.is at (steps_on c.walk.invariant.walking
     (λ runs at. rw c.in-Some-Ok.field-0-is at (c.in-Some-Ok.ensures.ok runs at)) c.go_on.ensures.runs) in
     record { fits = rw c.in-More.is at c.go_on.ensures.fits; walking = on.walking }
 
 pub walk-smaller-else-is_null : goal.walk-smaller-else-is_null
 walk-smaller-else-is_null g c =
     let m = g.M.Segments.segments c.args.message.now in
-    let on = rw c.in-More.is at (steps_on _ _ _ _ _ _ _ _ _ _ _ _ c.walk.invariant.walking
+    let on = rw c.in-More.is at (steps_on c.walk.invariant.walking
     (λ runs at. rw c.in-Some-Ok.field-0-is at (c.in-Some-Ok.ensures.ok runs at)) c.go_on.ensures.runs) in
     on.less
 
 pub returns-in-Full-clause-full : goal.returns-in-Full-clause-full
 returns-in-Full-clause-full g c = λ f.
     let m = g.M.Segments.segments c.args.message.now in
-    let on = rw c.in-Full.is at (steps_on _ _ _ _ _ _ _ _ _ _ _ _ c.walk.invariant.walking
+    let on = rw c.in-Full.is at (steps_on c.walk.invariant.walking
     (λ runs at. rw c.in-Some-Ok.field-0-is at (c.in-Some-Ok.ensures.ok runs at)) c.go_on.ensures.runs) in
     (rw c.in-Full.is at c.go_on.ensures.fits, on.walking)
 
 pub returns-in-Done-clause-done : goal.returns-in-Done-clause-done
 returns-in-Done-clause-done g c = λ f.
     let m = g.M.Segments.segments c.args.message.now in
-    let on = rw c.in-Done.is at (steps_on _ _ _ _ _ _ _ _ _ _ _ _ c.walk.invariant.walking
+    let on = rw c.in-Done.is at (steps_on c.walk.invariant.walking
     (λ runs at. rw c.in-Some-Ok.field-0-is at (c.in-Some-Ok.ensures.ok runs at)) c.go_on.ensures.runs) in
     on.walking
 

@@ -29,7 +29,7 @@ returns-clause-given g c = λ steps left.
     let start = c.args.self.now in
     let step = c.args.step in
     let m = g.M.Segments.segments start.message.now in
-    given_after _ _ _ _ _ _ c.given.ensures.given (λ first leads. elim c.match-self.branch [
+    given_after step steps _ c.given.ensures.given (λ first leads. elim c.match-self.branch [
       | in-To+in-Ok-Some w ↦ (
           let h = rw w.in-To.is at leads in
           let next = rw w.in-Ok-Some.field-0-is at (w.in-Ok-Some.ensures.some first h.0 h.1) in
@@ -42,7 +42,7 @@ returns-clause-given g c = λ steps left.
       | in-To+in-Err w ↦ (
           let h = rw w.in-To.is at leads in
           subst (λ (x : Way). IsWay m start.words start.depth (first ++ step ∷ steps) x) (sym w.way'-is)
-          (step_refused m start.words start.depth first steps step w.in-Err.refusal (w.in-Err.ensures.err first h.0 h.1)))
+          (step_refused first steps step (w.in-Err.ensures.err first h.0 h.1)))
       | in-Early w ↦ search (rules, no_node_longer)
       | in-Refused w ↦ search (rules, refused_longer)
     ])

@@ -12,7 +12,7 @@ returns-in-None-clause-none g c =
     let none = subst (λ u. (b : Spot) → StepsTo (g.M.Segments.segments u) (node_spot c.loop-step.node)
     (get_or path i (Ptr 0)) b → ⊥) c.loop-step.invariant.0 c.in-None.ensures.none in
     let lt : i < length path = omega (arith, c.loop-step-test.true) in
-    comes_no_node _ _ _ _ _ _ _ (split_at path i (Ptr 0) lt) c.loop-step.invariant.1.1 none
+    comes_no_node _ (take i path) _ _ _ (split_at path i (Ptr 0) lt) c.loop-step.invariant.1.1 none
 
 pub loop-step-preserved : goal.loop-step-preserved
 loop-step-preserved g c =

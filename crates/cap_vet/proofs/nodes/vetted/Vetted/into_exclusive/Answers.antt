@@ -13,7 +13,7 @@ returns-clause-accepts g c = λ disjoint.
 
 pub returns-clause-names : goal.returns-clause-names
 returns-clause-names g c = λ s w n first.
-    (let same = one_overlap _ _ _ _ _ _ _ c.in-Some.ensures first in inl (cc))
+    (let same = one_overlap (g.M.Segments.segments c.args.self.message.now) _ _ _ s w n c.in-Some.ensures first in inl (cc))
 
 pub first_overlap-requires-clause-accepted : goal.first_overlap-requires-clause-accepted
 first_overlap-requires-clause-accepted g c = (c.args.self.report, vetted_kept _ _ c.args.self.accepted)

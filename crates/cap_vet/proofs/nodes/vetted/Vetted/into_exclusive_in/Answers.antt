@@ -31,5 +31,5 @@ pub returns-in-Some-clause-refuses : goal.returns-in-Some-clause-refuses
 returns-in-Some-clause-refuses g c =
     let capacity : marks_of (g.M.Segments.segments c.args.self.message.now) ≤ length c.args.marks.now =
     omega (arith, c.numbers_for-needed.ensures.exact, c.if-marks-needed.false) in
-    λ x h. ap Err (one_exclusive_fault _ _ _ _ _ _
+    λ x h. ap Err (one_exclusive_fault _ _ _ (length c.args.marks.now) _ x
     (c.args.self.report, vetted_kept _ _ c.args.self.accepted, capacity, c.in-Some.ensures) h)

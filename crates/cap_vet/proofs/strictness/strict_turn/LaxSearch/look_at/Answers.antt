@@ -7,4 +7,4 @@ returns-in-Some g c = λ seen a cost l k.
     finds_first _ seen a _ _ _ cost c.in-Some.what l c.in-Some.ensures.some (search (rules, knows_none))
 
 pub returns-in_default : goal.returns-in_default
-returns-in_default g c = λ seen a cost l k. knows_on _ _ _ _ _ _ _ _ l c.in_default.ensures.none k
+returns-in_default g c = λ seen a cost l k. knows_on _ seen a _ _ _ cost _ l c.in_default.ensures.none k

@@ -6,6 +6,6 @@ pub returns-clause-ok : goal.returns-clause-ok
 returns-clause-ok g c = λ seen a l known.
     let m = g.M.Segments.segments c.args._message.now in
     let reached = rw (l.segment, l.word) at l.trail.ahead_reached.0 in (
-      rw c.from.ensures (costs_on _ _ _ _ _ _ _ _ reached l.costs known.0),
+      rw c.from.ensures (costs_on _ _ _ reached l.costs known.0),
       omega (arith, c.from.ensures, known.1),
     )
