@@ -104,22 +104,21 @@ def chains(names):
 
 @contextmanager
 def copy_apart(name):
-    """A copy of a crate and of those below it, with what `rt` has built of them, and of this crate with all that it has kept.
-    Files that stay as they are are links."""
+    """A copy of a crate and of those below it, with what `rt` has built of them. What `rt` keeps of this crate is then as it leaves
+    it in the copy. The files are links, since `rt` makes a new file where one changes."""
     used, folder = below([name]), TOP / "crates" / name
     BUILT.mkdir(exist_ok=True)
     with tempfile.TemporaryDirectory(prefix="proof-", dir=BUILT) as copied, open_locked(folder):
         root = Path(copied)
         for it in used:
-            left_out = ("must-fail", "incremental") if it != name else ("must-fail", "out")
+            left_out = ["must-fail"] + ["incremental"] * (it != name)
             shutil.copytree(TOP / "crates" / it, root / "crates" / it, copy_function=os.link, ignore=lambda *_, it=left_out: it)
         lines = (TOP / "crates.txt").read_text().splitlines(keepends=True)
         (root / "crates.txt").write_text("".join(line for line in lines if re.split(r"[\s:]", line)[0] in used))
-        (folder / "out").mkdir(exist_ok=True)
-        (folder / "out").rename(root / "crates" / name / "out")
-        try:
-            yield root / "crates" / name
-        finally:
+        yield root / "crates" / name
+        if (folder / "out").is_dir():
+            (folder / "out").rename(root / "before")
+        if (root / "crates" / name / "out").is_dir():
             (root / "crates" / name / "out").rename(folder / "out")
 
 
