@@ -23,10 +23,11 @@ pub struct Packer<O> {
     output: O,
     closed: bool,
     group: Group,
+    // Where a group is encoded before it is written. It is before `words`, and so far from the piece
+    // that `put_bytes` reads: a processor may take loads and stores some 4 KiB apart for one place.
+    buffer: [u8; BUFFER_BYTES],
     // after the first word of a run of literal words
     words: [u64; MORE_WORDS],
-    // where a group is encoded before it is written
-    buffer: [u8; BUFFER_BYTES],
     ghost one_group: { group_size (held group words) ≡ length (held group words) },
     ghost full_first: { first_zeros group ≡ 0 },
 }
@@ -59,8 +60,8 @@ impl<O: ByteOut> Packer<O> {
             output,
             closed: false,
             group: Group::Empty,
-            words: [0; MORE_WORDS],
             buffer: [0; BUFFER_BYTES],
+            words: [0; MORE_WORDS],
         }
     }
 
