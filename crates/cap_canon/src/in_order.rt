@@ -119,7 +119,7 @@ fn next_end<M: Segments>(message: &M, s: u32, w: u32, cost: u64, end: u32) -> Op
 {
     // Of segment `s`, as the walk reads it: so the compiler reads the word once.
     let word = message.word(s, w);
-    if u64::from(w) + 1 + u64::from(middle(word)) != u64::from(end) {
+    if w + 1 + middle(word) != end {
         return other_end(message, w, end);
     }
     match kind(word) {
