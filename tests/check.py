@@ -4,16 +4,14 @@
     check.py CRATE
 
  1. the proof of the crate, and its layout;
- 2. the crates above that use it, and beside that their tests in Rattle, without a proof that these are safe;
- 3. its must-fail edits of files that have changed, and of files that use something of these, over any number of others. If that
-    is none, or if `lib.rt` or a file beside `src` has changed, all of its edits. What an earlier try refused counts;
- 4. the scripts that its behaviour is in: those of the built program, or of the archive from C, or both.
+ 2. the crates above that use it, and beside that their tests in Rattle, without a proof that these are safe. On the cores that
+    these leave, its must-fail edits of files that have changed, and of files that use something of these, over any number of
+    others. If that is none, or if `lib.rt` or a file beside `src` has changed, all of its edits. What an earlier try refused counts;
+ 3. the scripts that its behaviour is in: those of the built program, or of the archive from C, or both.
 
 Each step takes all cores. Of what it writes only errors and warnings are shown, and the time that it took. The first step that
 fails is the last one, and then the status is 1. `make test` also has the packages, the bindings and the servers.
 """
-import contextlib
-import io
 import os
 import re
 import resource
@@ -97,14 +95,25 @@ def try_edits(name):
     crate = prove.TOP / "crates" / name
     found, every = reached(crate, changed()), len(list(crate.glob("must-fail/*.edit")))
     groups = [group for group in (found[at::CORES] for at in range(CORES)) if group]
-    with contextlib.redirect_stdout(io.StringIO()) as said, ThreadPoolExecutor(CORES) as cores:
-        counts = list(cores.map(lambda group: edits.try_edits(crate, group), groups))
-    for line in said.getvalue().splitlines():
-        if "BAD EDIT" in line or "not proved without" in line:
-            print(line)
+    with ThreadPoolExecutor(CORES) as cores:
+        counts = list(cores.map(lambda group: edits.try_edits(crate, group, beside=True, say=say_bad), groups))
     passed, known = (sum(column) for column in zip((0, 0), *counts))
     print(f"{passed} of {len(found)} edits are refused, {known} of them by an earlier try. The crate has {every}")
     return passed == len(found)
+
+
+def say_bad(line):
+    """Shows what is said of an edit where it isn't refused as it has to be."""
+    if "BAD EDIT" in line or "not proved without" in line:
+        print(line)
+
+
+def prove_above_and_edit(name):
+    """Proves the crates above, and beside that tries the edits. The crates are one after the other, so they leave cores."""
+    with ThreadPoolExecutor(1) as beside:
+        refused = beside.submit(try_edits, name)
+        is_proved = prove_above(name)
+        return refused.result() and is_proved
 
 
 def run_scripts(name):
@@ -126,7 +135,7 @@ def processor_time():
     return used.ru_utime + used.ru_stime
 
 
-STEPS = {"the crate": check, "the crates above": prove_above, "its must-fail edits": try_edits, "the scripts": run_scripts}
+STEPS = {"the crate": check, "the crates above and its must-fail edits": prove_above_and_edit, "the scripts": run_scripts}
 
 
 def main(words):

@@ -97,15 +97,16 @@ def words(crate, kept):
     return [*command, "--jobs", "1", "--incremental", kept]
 
 
-def checked(crate, texts, kept):
-    """What the prover writes for a copy of the crate with these texts, and its status."""
+def checked(crate, texts, kept, beside=False):
+    """What the prover writes for a copy of the crate with these texts, and its status. It has less priority if it works beside
+    others."""
     with tempfile.TemporaryDirectory(prefix="capvet-edit-") as copy:
         for part in PARTS:
             if (crate / part).is_dir():
                 shutil.copytree(crate / part, Path(copy) / part)
         for path, text in texts.items():
             (Path(copy) / path).write_text(text)
-        ran = subprocess.run(words(crate, kept), cwd=copy, stdin=subprocess.DEVNULL, stdout=subprocess.PIPE,
+        ran = subprocess.run(["nice"] * beside + words(crate, kept), cwd=copy, stdin=subprocess.DEVNULL, stdout=subprocess.PIPE,
                              stderr=subprocess.STDOUT, text=True, errors="replace")
     return ran.stdout, ran.returncode
 
@@ -139,13 +140,13 @@ def judged(output, status, changed, own):
     return True, f"refused at {where}"
 
 
-def tried(crate, edit, kept):
+def tried(crate, edit, kept, beside=False):
     """Whether the prover refuses this text of an edit at a clause, and what to say."""
     try:
         texts = edited(crate, edit)
     except BadEdit as error:
         return False, f"{error}"
-    return judged(*checked(crate, texts, kept), texts, functions(crate))
+    return judged(*checked(crate, texts, kept, beside), texts, functions(crate))
 
 
 @functools.cache
@@ -213,9 +214,9 @@ def keep(key, said):
         Path(file.name).replace(KEPT / key)
 
 
-def try_edits(crate, files, is_anew=False):
+def try_edits(crate, files, is_anew=False, beside=False, say=print):
     """Tries edits of one crate in turn, each over what the checks before it proved. Returns how many hold, and how many of
-    them were taken from an earlier run."""
+    them were taken from an earlier run. `say` gets a line for each that was tried."""
     texts = {file.name: file.read_text() for file in files}
     keys = {name: checksum(inputs(crate, name, text)) for name, text in texts.items()}
     left = [name for name in texts if is_anew or taken(keys[name]) is None]
@@ -224,13 +225,13 @@ def try_edits(crate, files, is_anew=False):
         kept = Path(folder) / "kept"
         if left and (crate / "out/incremental").is_dir():
             shutil.copytree(crate / "out/incremental", kept)
-        output, status = checked(crate, {}, kept) if left else ("", 0)
+        output, status = checked(crate, {}, kept, beside) if left else ("", 0)
         if status:
-            print(f"{crate.name}: not proved without an edit: {' '.join(output.splitlines()[-1:])}", flush=True)
+            say(f"{crate.name}: not proved without an edit: {' '.join(output.splitlines()[-1:])}")
             return known, known
         for name in left:
-            holds, why = tried(crate, texts[name], kept)
-            print(f"{crate.name}/{name}: {'' if holds else 'BAD EDIT: '}{why}", flush=True)
+            holds, why = tried(crate, texts[name], kept, beside)
+            say(f"{crate.name}/{name}: {'' if holds else 'BAD EDIT: '}{why}")
             # (not if a file has changed meanwhile)
             if holds and checksum(inputs(crate, name, texts[name])) == keys[name]:
                 keep(keys[name], why)
@@ -247,6 +248,7 @@ def edits(given):
 
 def main(given):
     """Tries the edits, the crates side by side."""
+    sys.stdout.reconfigure(line_buffering=True)
     parser = argparse.ArgumentParser(usage=__doc__)
     parser.add_argument("--proved", type=Path)
     parser.add_argument("--anew", action="store_true")

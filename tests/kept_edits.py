@@ -119,7 +119,7 @@ class Prover:
     def __init__(self, answer=REFUSED, meanwhile=lambda: None):
         self.asked, self.answer, self.meanwhile = 0, answer, meanwhile
 
-    def __call__(self, crate, texts, kept):
+    def __call__(self, crate, texts, kept, beside):
         self.asked += 1
         self.meanwhile()
         return self.answer if texts else ("logic=proved\n", 0)
