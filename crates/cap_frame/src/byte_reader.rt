@@ -15,7 +15,7 @@ ghost use Rattle.std.specs.Vec.{vec_capacity, vec_len};
 use crate::byte_message::{ByteMessage, blank};
 use crate::fault::{FrameFault, SizeLimit, frame_fault};
 use crate::segment_tables::fill_starts;
-use crate::table::{Sizes, TableSums, next_table, sums_after, total};
+use crate::table::{Sizes, TableSums, empty, next_table, sums_after, total};
 use cap_words::{SourceFault, WordSource};
 use std::alloc::{AllocError, Global};
 
@@ -40,7 +40,7 @@ fn read_parts<S: WordSource>(
     ensures left { IfErr result (λ fault. IfSome (S.words source.old) (λ ws.
         LeavesSizes fault ws sizes.new.items)) }
 {
-    sizes.clear();
+    empty(sizes);
     match next_table(source, limit, sizes) {
         Ok(true) => {}
         Ok(false) => return Ok(false),

@@ -4,7 +4,7 @@ ghost use Rattle.cap_frame.specs.Bytes.{starts_of};
 ghost use Rattle.cap_spec.specs.GreatestLimits.{most_words};
 ghost use Rattle.std.specs.Prelude.{◌≡◌, ◌≤◌, [], length, sum};
 
-use crate::table::Sizes;
+use crate::table::{Sizes, empty};
 
 /// Where each segment of a message starts, in words.
 pub(crate) type Starts = Sizes;
@@ -37,7 +37,7 @@ pub(crate) fn fill_starts(sizes: &[u32], starts: &mut Starts)
     requires small { sum sizes.now ≤ most_words }
     ensures { starts.new.items ≡ starts_of 0 sizes.now }
 {
-    starts.clear();
+    empty(starts);
     let mut at = 0u32;
     'segments: for size in sizes {
         starts.push(at);

@@ -20,6 +20,19 @@ use std::alloc::{AllocError, Global};
 /// The sizes of a message's segments, in words.
 pub(crate) type Sizes = ArrayVec<u32, 512>;
 
+/// Empties a table. Most messages have one segment: of their tables one number is taken, without the
+/// call that sets all of them to zero.
+#[inline(always)]
+pub(crate) fn empty(table: &mut Sizes)
+    ensures { table.new.items ≡ [] }
+{
+    if table.len() == 1 {
+        table.pop();
+    } else {
+        table.clear();
+    }
+}
+
 /// What is kept of the table of a message that can't be read.
 #[derive(Clone, Copy, Debug, PartialEq, Eq, Drop)]
 pub struct TableSums {
