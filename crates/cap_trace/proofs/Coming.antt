@@ -1,14 +1,18 @@
 -- A search comes to the pointer words of a message one after the other.
 use Rattle.cap_spec.proofs.Lemmas.{HasWord-inside, Before-asymmetric, Before-irreflexive, one_reached, one_of_last}
-use Rattle.cap_spec.proofs.ProofNames.{List, Some, [], ap, arith, get_or, inl, inr, length, length-append, refl, subst, sym, ℕ}
-use Rattle.cap_spec.proofs.ProofNames.{◌++◌, ◌+◌, ◌-◌, ◌<◌, ◌∙◌, ◌∷◌, ◌≡◌, ◌≤◌, ◌⊎◌, IsOneOf, segment_of, Before, IsNumbered}
-use Rattle.cap_spec.proofs.ProofNames.{IsTour, PathLeads, Reaches, Spot, StepsTo, element, level_of, word}
+use Rattle.cap_spec.proofs.ProofNames.{List, None, Some, [], append_assoc, arith, inl, inr, length, length-append, refl, subst, sym, ℕ}
+use Rattle.cap_spec.proofs.ProofNames.{◌++◌, ◌+◌, ◌<◌, ◌∷◌, ◌≡◌, ◌≤◌, ◌⊎◌, IsOneOf, segment_of, Before, IsNumbered}
+use Rattle.cap_spec.proofs.ProofNames.{IsMessage, IsTour, Reaches, ◌^◌}
+use Rattle.std.proofs.Common.{get_or, take, ◌-◌}
+use Rattle.std.proofs.lemmas.List.{length-map}
 use Rattle.cap_vet.specs.Trails.{Ahead, IsTrail}
 use Rattle.cap_vet.proofs.OneTrail.{root_trail}
-use Rattle.cap_trace.specs.Branches.{root_branch}
-use Rattle.cap_trace.specs.TraceNames.{Step, AreBranches, path_of, rest_from, IsTraceable, PassesAt, HasCome, IsBlockedAt}
-use Rattle.cap_trace.specs.TraceNames.{IsPut, IsSearch, ReportsPath, word_ahead, Branch, GoesBelow, IsBranch, Object}
-use Rattle.cap_trace.proofs.Branches.{branches_with, branches_without, last_read, length_parts, went_below}
+use Rattle.cap_trace.specs.Branches.{element_row, past_element}
+use Rattle.cap_trace.specs.TraceNames.{Step, AreBranches, path_of, place_of, rest_from, skipped, step_of, words_left, IsTraceable}
+use Rattle.cap_trace.specs.TraceNames.{PassesAt, HasCome, HasPassed, IsBlockedAt, IsPut, ReportsPath, word_ahead, Branch, GoesBelow, IsBranch}
+use Rattle.cap_trace.specs.TraceNames.{Form, Object, Pointers, Struct, Structs, WordPlace}
+use Rattle.cap_trace.proofs.Branches.{after_element, after_word, branches_join, branches_split, element_taken, few_branches, last_apart, nothing_left}
+use Rattle.cap_trace.proofs.Branches.{rest_append, row_fits, word_taken}
 use Rattle.cap_trace.proofs.Numbering.{number_order}
 use Rattle.cap_trace.proofs.Onward.{next_tour, root_tour, up_to_last}
 
@@ -26,25 +30,17 @@ has_root m n p s w a = HasWord-inside m 0 0 a.reached.0 a.reached.2
 
 -- At first the search is at the root word.
 pub at_root : (m : List (List ℕ)) (depth : ℕ) → 0 < length m → 0 < length (segment_of m 0)
-    → HasCome m depth 1 [] root_branch
+    → HasCome m depth 1 [] (record { segment = 0; at = 0 })
 at_root m depth exists some = record {
   seen = [];
   trail = root_trail m some;
   tour = [] ∷ [];
   is_tour = root_tour m some;
   number = refl;
-  branches = (
-    record {
-      exists = exists;
-      inside = omega (arith, some);
-      counted = (refl, refl, refl);
-      high = omega arith;
-      low = omega arith;
-    },
-    tt,
-  );
+  stack = tt;
+  exists = exists;
+  inside = some;
   passable = λ q b. absurd b;
-  few = omega arith;
 }
 
 -- a path reaches one place, so what passes there does
@@ -55,58 +51,162 @@ passes_there m depth p l s w l' s' w' r k h =
     subst (λ (u : ℕ). PassesAt m depth s' w' u) o.0
     (subst (λ (u : ℕ). PassesAt m depth s' u l) o.2 (subst (λ (u : ℕ). PassesAt m depth u w l) o.1 h))
 
--- Then it comes to the next word ahead, where the pointer passes.
-pub came_next : (m : List (List ℕ)) (depth n : ℕ) (fs gs : List Branch) (f g : Branch) → (h : HasCome m depth n fs f)
-    → PassesAt m depth f.segment f.at f.level
-    → IsTrail m (path_of (fs ++ f ∷ []) ∷ h.seen) (word_ahead (path_of (gs ++ g ∷ [])) g ∷ rest_from [] (gs ++ g ∷ []))
-    → AreBranches m depth 0 (gs ++ g ∷ []) → length gs ≤ length fs + 1 → HasCome m depth (n + 1) gs g
-came_next m depth n fs gs f g h passes t branches few = record {
-  seen = path_of (fs ++ f ∷ []) ∷ h.seen;
-  trail = t;
-  tour = h.tour ++ path_of (gs ++ g ∷ []) ∷ [];
-  is_tour = tour;
-  number = omega (arith, h.number, length-append h.tour (path_of (gs ++ g ∷ []) ∷ []));
-  branches = branches;
-  passable = λ q b level s w r. passed q level s w r (before q b (one_of_last q (path_of (gs ++ g ∷ [])) h.tour (tour.all q level s w r (inr b))));
-  few = omega (arith, h.few, few);
-}
-  where
-    tour : IsTour m (path_of (gs ++ g ∷ [])) (h.tour ++ path_of (gs ++ g ∷ []) ∷ [])
-    tour = next_tour m (path_of (fs ++ f ∷ [])) h.seen (word_ahead (path_of (gs ++ g ∷ [])) g)
-        (rest_from [] (gs ++ g ∷ [])) h.tour t h.is_tour
-
-    before : (q : List Step) → Before q (path_of (gs ++ g ∷ [])) → (q ≡ path_of (gs ++ g ∷ [])) ⊎ IsOneOf q h.tour
-        → (q ≡ path_of (fs ++ f ∷ [])) ⊎ Before q (path_of (fs ++ f ∷ []))
-    before q b (inl e) = absurd (Before-irreflexive q (subst (λ (u : List Step). Before q u) (sym e) b))
-    before q b (inr i) = h.is_tour.none_after q i
-
-    passed : (q : List Step) (level s w : ℕ) → Reaches m q level s w
-        → (q ≡ path_of (fs ++ f ∷ [])) ⊎ Before q (path_of (fs ++ f ∷ [])) → PassesAt m depth s w level
-    passed q level s w r (inl e) = passes_there m depth (path_of (fs ++ f ∷ [])) f.level f.segment f.at level s w
+-- Where its pointer passes, the search goes on to what is ahead.
+passed : (m : List (List ℕ)) (depth n : ℕ) (fs gs : List Branch) (here : WordPlace) → (h : HasCome m depth n fs here)
+    → PassesAt m depth here.segment here.at (length fs + 1) → IsTrail m (path_of fs ∷ h.seen) (rest_from [] 1 gs)
+    → AreBranches m depth 1 gs → HasPassed m depth n gs
+passed m depth n fs gs here h passes trail branches = record {
+  path = path_of fs;
+  seen = h.seen;
+  trail = trail;
+  tour = h.tour;
+  is_tour = h.is_tour;
+  number = h.number;
+  stack = branches;
+  passable = λ q b level s w r. elim b [
+    | inl e ↦ passes_there m depth (path_of fs) (length fs + 1) here.segment here.at level s w
         h.trail.ahead_reached.0 (subst (λ (u : List Step). Reaches m u level s w) e r) passes
-    passed q level s w r (inr b) = h.passable q b level s w r
+    | inr k ↦ h.passable q k level s w r
+  ];
+}
+
+-- Where nothing is below it, these are the words of the objects on the way down,
+pub passed_over : (m : List (List ℕ)) (depth n : ℕ) (fs : List Branch) (here : WordPlace) → HasCome m depth n fs here
+    → GoesBelow m depth here.segment here.at (length fs + 1) (Object None) → HasPassed m depth n fs
+passed_over m depth n fs here h k =
+    passed m depth n fs fs here h k.0 (k.2 h.seen (path_of fs) (rest_from [] 1 fs) h.trail) h.stack
+
+-- and else first those of the object below.
+pub passed_into : (m : List (List ℕ)) (depth n : ℕ) (fs : List Branch) (f : Branch) (here : WordPlace) → HasCome m depth n fs here
+    → GoesBelow m depth here.segment here.at (length fs + 1) (Object (Some f)) → HasPassed m depth n (fs ++ f ∷ [])
+passed_into m depth n fs f here h k =
+    passed m depth n fs (fs ++ f ∷ []) here h k.0
+    (subst (λ (u : List Ahead). IsTrail m (path_of fs ∷ h.seen) u) (sym (rest_append [] 1 fs (f ∷ [])))
+    (k.2 h.seen (path_of fs) (rest_from [] 1 fs) h.trail))
+    (branches_join m depth 1 fs (f ∷ []) h.stack (k.1.0, tt))
+
+-- The last of these is a branch, and space is left for it.
+pub last_branch : (m : List (List ℕ)) (depth n : ℕ) (fs : List Branch) (f : Branch) → HasPassed m depth n (fs ++ f ∷ [])
+    → IsBranch m depth (length fs + 1) f
+last_branch m depth n fs f h = (branches_split m depth 1 fs (f ∷ []) h.stack).1.0
+
+pub has_space : (m : List (List ℕ)) (depth n : ℕ) (fs : List Branch) (f : Branch) → HasPassed m depth n (fs ++ f ∷ [])
+    → length fs < depth
+has_space m depth n fs f h =
+    omega (arith, few_branches m depth (fs ++ f ∷ []) h.stack, length-append fs (f ∷ []))
+
+-- Without one that has nothing left, the same words are ahead.
+pub went_up : (m : List (List ℕ)) (depth n : ℕ) (fs : List Branch) (f : Branch) → HasPassed m depth n (fs ++ f ∷ [])
+    → f.left ≡ 0 → HasPassed m depth n fs
+went_up m depth n fs f h none = record {
+  path = h.path;
+  seen = h.seen;
+  trail = subst (λ (u : List Ahead). IsTrail m (h.path ∷ h.seen) u) (nothing_left fs f none) h.trail;
+  tour = h.tour;
+  is_tour = h.is_tour;
+  number = h.number;
+  stack = (branches_split m depth 1 fs (f ∷ []) h.stack).0;
+  passable = h.passable;
+}
+
+-- It comes to the next word of the last row.
+pub took_word : (m : List (List ℕ)) (depth n : ℕ) (fs : List Branch) (f : Branch) → HasPassed m depth n (fs ++ f ∷ [])
+    → 0 < words_left f.form f → HasCome m depth (n + 1) (fs ++ skipped f 1 ∷ []) (place_of f)
+took_word m depth n fs f h some =
+    let gs = fs ++ skipped f 1 ∷ [] in
+    let b = branches_split m depth 1 fs (f ∷ []) h.stack in
+    let next = after_word m depth (length fs + 1) f some b.1.0 in
+    let trail = subst (λ (u : List Ahead). IsTrail m (h.path ∷ h.seen) u) (word_taken fs f some) h.trail in
+    let tour : IsTour m (path_of gs) (h.tour ++ path_of gs ∷ []) =
+    next_tour m h.path h.seen (word_ahead gs (place_of f)) (rest_from [] 1 gs) h.tour trail h.is_tour in record {
+      seen = h.path ∷ h.seen;
+      trail = trail;
+      tour = h.tour ++ path_of gs ∷ [];
+      is_tour = tour;
+      number = omega (arith, h.number, length-append h.tour (path_of gs ∷ []));
+      stack = branches_join m depth 1 fs (skipped f 1 ∷ []) b.0 (next.0, tt);
+      exists = b.1.0.exists;
+      inside = next.1;
+      passable = λ q k level s w r. h.passable q (before (path_of gs) q k (one_of_last q (path_of gs) h.tour (tour.all q level s w r (inr k)))) level s w r;
+    }
+  where
+    before : (p q : List Step) → Before q p → (q ≡ p) ⊎ IsOneOf q h.tour → (q ≡ h.path) ⊎ Before q h.path
+    before p q b (inl e) = absurd (Before-irreflexive q (subst (λ (u : List Step). Before q u) (sym e) b))
+    before p q b (inr i) = h.is_tour.none_after q i
+
+-- After k words of that row it comes to the next one.
+pub came_further : (m : List (List ℕ)) (depth n : ℕ) (fs : List Branch) (f : Branch) (k : ℕ) → k < words_left f.form f
+    → HasPassed m depth (n + k) (fs ++ skipped f k ∷ [])
+    → HasCome m depth (n + (k + 1)) (fs ++ skipped f (k + 1) ∷ []) (record { segment = f.segment; at = f.next + k })
+came_further m depth n fs f k some h =
+    let number : n + (k + 1) ≡ n + k + 1 = omega arith in
+    let next : f.next + (k + 1) ≡ f.next + k + 1 = omega arith in
+    let left : f.left - (k + 1) ≡ f.left - k - 1 = omega arith in
+    let taken : f.taken + (k + 1) ≡ f.taken + k + 1 = omega arith in
+    rw (number, next, left, taken) (took_word m depth (n + k) fs (skipped f k) h (still_left f.form f some))
+  where
+    still_left : (form : Form) (f : Branch) → k < words_left form f → 0 < words_left form (skipped f k)
+    still_left Struct f less = omega (arith, less)
+    still_left Pointers f less = omega (arith, less)
+    still_left Structs f less = absurd (omega (arith, less))
+
+pub came_first : (m : List (List ℕ)) (depth n : ℕ) (fs : List Branch) (f : Branch) → 0 < words_left f.form f
+    → HasPassed m depth n (fs ++ f ∷ [])
+    → HasCome m depth (n + 1) (fs ++ skipped f 1 ∷ []) (record { segment = f.segment; at = f.next + 0 })
+came_first m depth n fs f some h =
+    let place : f.next + 0 ≡ f.next = omega arith in rw place (took_word m depth n fs f h some)
+
+-- The numbers of the row that the search is in have 32 bits.
+pub row_here : (m : List (List ℕ)) (depth n : ℕ) (branches now : List Branch) (here : WordPlace) (i : ℕ) (d : Branch) → IsMessage m
+    → HasCome m depth n branches here → now ≡ branches → i + 1 ≡ length branches
+    → 0 < words_left (get_or now i d).form (get_or now i d)
+    → ((get_or now i d).next + (get_or now i d).left < 2 ^ 32) × ((get_or now i d).taken + (get_or now i d).left < 2 ^ 32)
+    × (words_left (get_or now i d).form (get_or now i d) ≡ (get_or now i d).left)
+row_here m depth n branches now here i d message h same long some =
+    let parts = subst (λ (u : List Branch). AreBranches m depth 1 u) (last_apart branches now i d same long) h.stack in
+    let b = (branches_split m depth 1 (take i branches) (get_or now i d ∷ []) parts).1.0 in
+    row_fits m depth (length (take i branches) + 1) (get_or now i d) message some b
+
+-- Of a list of structs it takes the next element first.
+pub took_element : (m : List (List ℕ)) (depth n : ℕ) (fs : List Branch) (f : Branch) → HasPassed m depth n (fs ++ f ∷ [])
+    → f.form ≡ Structs → 0 < f.left → HasPassed m depth n ((fs ++ past_element f ∷ []) ++ element_row f ∷ [])
+took_element m depth n fs f h is some =
+    let b = branches_split m depth 1 fs (f ∷ []) h.stack in
+    let next = after_element m depth (length fs + 1) f is some b.1.0 in record {
+      path = h.path;
+      seen = h.seen;
+      trail = subst (λ (u : List Ahead). IsTrail m (h.path ∷ h.seen) u) (element_taken fs f is some) h.trail;
+      tour = h.tour;
+      is_tour = h.is_tour;
+      number = h.number;
+      stack = subst (λ (u : List Branch). AreBranches m depth 1 u) (sym (append_assoc fs (past_element f ∷ []) (element_row f ∷ [])))
+          (branches_join m depth 1 fs (past_element f ∷ element_row f ∷ []) b.0 next);
+      passable = h.passable;
+    }
 
 -- The path to where it is has the number that it has come to.
-pub numbered_here : (m : List (List ℕ)) (depth n : ℕ) (fs : List Branch) (f : Branch) → HasCome m depth n fs f
-    → IsNumbered m (path_of (fs ++ f ∷ [])) f.segment f.at n
-numbered_here m depth n fs f h =
-    record { level = f.level; tour = h.tour; reached = h.trail.ahead_reached.0; is_tour = h.is_tour; count = h.number }
+pub numbered_here : (m : List (List ℕ)) (depth n : ℕ) (fs : List Branch) (here : WordPlace) → HasCome m depth n fs here
+    → IsNumbered m (path_of fs) here.segment here.at n
+numbered_here m depth n fs here h =
+    record { level = length fs + 1; tour = h.tour; reached = h.trail.ahead_reached.0; is_tour = h.is_tour; count = h.number }
 
 -- It is traceable.
-pub traceable_here : (m : List (List ℕ)) (depth n : ℕ) (fs : List Branch) (f : Branch) → HasCome m depth n fs f
-    → IsTraceable m depth n (path_of (fs ++ f ∷ []))
-traceable_here m depth n fs f h =
-    record { segment = f.segment; at = f.at; numbered = numbered_here m depth n fs f h; passable = h.passable }
+pub traceable_here : (m : List (List ℕ)) (depth n : ℕ) (fs : List Branch) (here : WordPlace) → HasCome m depth n fs here
+    → IsTraceable m depth n (path_of fs)
+traceable_here m depth n fs here h =
+    record { segment = here.segment; at = here.at; numbered = numbered_here m depth n fs here h; passable = h.passable }
 
--- Where no word is ahead, no path has a higher number.
-pub none_higher : (m : List (List ℕ)) (depth n more : ℕ) (fs : List Branch) (f : Branch) (q : List Step) (s w : ℕ)
-    → (h : HasCome m depth n fs f) → IsTrail m (path_of (fs ++ f ∷ []) ∷ h.seen) [] → n < more
-    → IsNumbered m q s w more → ⊥
-none_higher m depth n more fs f q s w h t less a =
-    let p = path_of (fs ++ f ∷ []) in
-    let b : Before p q = number_order m n more p q f.segment f.at s w (numbered_here m depth n fs f h) a less in
-    elim (t.complete q a.level s w a.reached) [
-      | inl i ↦ elim (up_to_last p q h.seen t.falls i) [
+-- Where no words are left, no path has a higher number.
+pub none_higher : (m : List (List ℕ)) (depth n more : ℕ) (q : List Step) → HasPassed m depth n [] → n < more
+    → IsTraceable m depth more q → ⊥
+none_higher m depth n more q h less a =
+    let p = h.path in
+    let (level, s, w, r) = h.trail.seen_reached p (inl refl) in
+    let here : IsNumbered m p s w n =
+    record { level = level; tour = h.tour; reached = r; is_tour = h.is_tour; count = h.number } in
+    let b : Before p q = number_order m n more p q s w a.segment a.at here a.numbered less in
+    elim (h.trail.complete q a.numbered.level a.segment a.at a.numbered.reached) [
+      | inl i ↦ elim (up_to_last p q h.seen h.trail.falls i) [
         | inl e ↦ Before-irreflexive p (subst (λ (u : List Step). Before p u) e b)
         | inr k ↦ Before-asymmetric p q b k
       ]
@@ -114,95 +214,19 @@ none_higher m depth n more fs f q s w h t less a =
     ]
 
 -- Where there is no way on, no path of a higher number is traceable.
-pub none_past : (m : List (List ℕ)) (depth n more : ℕ) (fs : List Branch) (f : Branch) (q : List Step)
-    → HasCome m depth n fs f → IsBlockedAt m depth f.segment f.at f.level → n < more → IsTraceable m depth more q → ⊥
-none_past m depth n more fs f q h blocked less a =
-    let p = path_of (fs ++ f ∷ []) in
-    let b : Before p q = number_order m n more p q f.segment f.at a.segment a.at (numbered_here m depth n fs f h) a.numbered less in
-    let on = a.passable p b f.level f.segment f.at h.trail.ahead_reached.0 in
+pub none_past : (m : List (List ℕ)) (depth n more : ℕ) (fs : List Branch) (here : WordPlace) (q : List Step)
+    → HasCome m depth n fs here → IsBlockedAt m depth here.segment here.at (length fs + 1) → n < more → IsTraceable m depth more q → ⊥
+none_past m depth n more fs here q h blocked less a =
+    let b : Before (path_of fs) q =
+    number_order m n more (path_of fs) q here.segment here.at a.segment a.at (numbered_here m depth n fs here h) a.numbered less in
+    let on = a.passable (path_of fs) b (length fs + 1) here.segment here.at h.trail.ahead_reached.0 in
     elim blocked [ inl wrong ↦ on.0 wrong.0 wrong.1 | inr deep ↦ on.1 deep ]
 
--- each spot counts one level
-one_level : (m : List (List ℕ)) (a : Spot) (x : Step) (b : Spot) → StepsTo m a x b → level_of b ≡ 1
-one_level m a x (word s w) g = refl
-one_level m a x (element t b ds ps) g = refl
-
-walk_steps : (m : List (List ℕ)) (a : Spot) (path : List Step) (n : ℕ) (b : Spot) → PathLeads m a path n b → n ≡ length path
-walk_steps m a [] n b h = h.0
-walk_steps m a (x ∷ path) n b h =
-    omega (arith, h.4, one_level m a x h.0 h.2, walk_steps m h.0 path h.1 b h.3)
-
--- Each step takes a level.
-pub level_counts : (m : List (List ℕ)) (depth n : ℕ) (fs : List Branch) (f : Branch) → HasCome m depth n fs f
-    → f.level ≡ length (path_of (fs ++ f ∷ [])) + 1
-level_counts m depth n fs f h =
-    let r = h.trail.ahead_reached.0 in
-    omega (arith, r.4, walk_steps m (word 0 0) (path_of (fs ++ f ∷ [])) r.1 (word f.segment f.at) r.3)
-
--- A path has at most as many steps as there are levels.
-pub few_steps : (m : List (List ℕ)) (depth n : ℕ) (fs : List Branch) (f : Branch) → HasCome m depth n fs f
-    → length (path_of (fs ++ f ∷ [])) ≤ depth
-few_steps m depth n fs f h =
-    let k = (branches_without m depth 0 fs f h.branches).1 in omega (arith, level_counts m depth n fs f h, k.low)
-
--- The branch of its word is the last.
-pub last_branch : (m : List (List ℕ)) (depth n : ℕ) (branches : List Branch) (last : Branch)
-    → (h : IsSearch m depth n branches last) → IsBranch m depth (0 + length h.others) last
-last_branch m depth n branches last h = (branches_without m depth 0 h.others last h.come.branches).1
-
--- It is the one that is read at the end.
-pub at_end : (m : List (List ℕ)) (depth n : ℕ) (branches now others : List Branch) (last d : Branch) (i : ℕ) → now ≡ branches
-    → branches ≡ others ++ last ∷ [] → i ≡ length others → HasCome m depth n others last
-    → IsSearch m depth n branches (get_or now i d)
-at_end m depth n branches now others last d i same parts place h =
-    let long = length_parts branches others last parts in
-    let read = last_read branches now others last d i same parts (omega (arith, place, long)) in
-    record {
-      others = others;
-      parts = parts ∙ ap (λ (u : Branch). others ++ u ∷ []) (sym read);
-      come = subst (λ (u : Branch). HasCome m depth n others u) (sym read) h;
-    }
-
--- So its level counts the steps.
-pub steps_counted : (m : List (List ℕ)) (depth n : ℕ) (branches : List Branch) (last : Branch)
-    → IsSearch m depth n branches last → last.level - 1 ≡ length (path_of branches)
-steps_counted m depth n branches last h =
-    omega (arith, level_counts m depth n h.others last h.come, ap (λ (u : List Branch). length (path_of u)) h.parts)
-
 -- Its path is what is written, and has few steps.
-pub found_reported : {S : Type 0} (slot : Step → S) (m : List (List ℕ)) (depth n : ℕ) (branches : List Branch) (last : Branch)
-    (count : ℕ) (old new : List S) → IsSearch m depth n branches last → count ≡ length (path_of branches)
-    → IsPut slot (path_of branches) old new → ReportsPath slot m depth n old (Some count) new × (count ≤ depth)
-found_reported slot m depth n branches last count old new h many put =
-    let path = path_of (h.others ++ last ∷ []) in
-    let same = ap (λ (u : List Branch). path_of u) h.parts in
-    let long = ap (λ (u : List Step). length u) same in (
-      (path, traceable_here m depth n h.others last h.come, many ∙ long, subst (λ (u : List Step). IsPut slot u old new) same put),
-      omega (arith, many, long, few_steps m depth n h.others last h.come),
-    )
-
--- Before the word of a number, space is left for one more branch.
-pub has_space : (m : List (List ℕ)) (depth n more space : ℕ) (branches : List Branch) (last : Branch)
-    → IsSearch m depth n branches last → n < more → (more ≤ space) ⊎ (depth + 1 < space) → length branches < space
-has_space m depth n more space branches last h less (inl enough) =
-    omega (arith, length_parts branches h.others last h.parts, h.come.few, less, enough)
-has_space m depth n more space branches last h less (inr enough) =
-    let k = last_branch m depth n branches last h in
-    omega (arith, length_parts branches h.others last h.parts, k.high, k.low, enough)
-
--- A search enters the object below the last word.
-pub entered : (m : List (List ℕ)) (depth n : ℕ) (branches next : List Branch) (last below : Branch)
-    → next ≡ branches ++ below ∷ [] → IsSearch m depth n branches last → GoesBelow m depth last (Object (Some below))
-    → IsSearch m depth (n + 1) next below
-entered m depth n branches next last below pushed h k =
-    let others = h.others in
-    let trail = subst (λ (u : List Ahead). IsTrail m (path_of (others ++ last ∷ []) ∷ h.come.seen) u) (went_below others last below)
-    (k.2 h.come.seen (path_of (others ++ last ∷ [])) (rest_from [] (others ++ last ∷ [])) h.come.trail) in
-    let few : length (others ++ last ∷ []) ≤ length others + 1 = omega (arith, length-append others (last ∷ [])) in
-    let branch = subst (λ (u : ℕ). IsBranch m depth u below) (omega (arith, length-append others (last ∷ [])))
-    (k.1 _ (last_branch m depth n branches last h)) in record {
-      others = others ++ last ∷ [];
-      parts = pushed ∙ ap (λ (u : List Branch). u ++ below ∷ []) h.parts;
-      come = came_next m depth n others (others ++ last ∷ []) last below h.come k.0 trail
-          (branches_with m depth 0 (others ++ last ∷ []) below h.come.branches branch) few;
-    }
+pub found_reported : {S : Type 0} (slot : Step → S) (m : List (List ℕ)) (depth n : ℕ) (fs : List Branch) (here : WordPlace)
+    (count : ℕ) (old new : List S) → HasCome m depth n fs here → count ≡ length (path_of fs) → IsPut slot (path_of fs) old new
+    → ReportsPath slot m depth n old (Some count) new × (count ≤ depth)
+found_reported slot m depth n fs here count old new h many put = (
+  (path_of fs, traceable_here m depth n fs here h, many, put),
+  omega (arith, many, length-map fs step_of, few_branches m depth fs h.stack),
+)

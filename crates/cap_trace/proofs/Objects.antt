@@ -1,40 +1,31 @@
--- The first pointer word of an object, as a branch.
+-- The pointer words of an object, as a branch.
 use Rattle.cap_spec.proofs.Lemmas.{one_word, short_segment, extent_structs, one_object}
-use Rattle.cap_spec.proofs.ProofNames.{Fits, List, [], ap, append_assoc, arith, inl, inr, length, refl, subst, suc, sym}
-use Rattle.cap_spec.proofs.ProofNames.{w32, zero, ℕ, ◌*◌, ◌++◌, ◌+◌, ◌-◌, ◌<◌, ◌^◌, ◌∙◌, ◌∷◌, ◌≡◌, ◌≤◌, ◌⊎◌, eqb_tells}
+use Rattle.cap_spec.proofs.ProofNames.{Fits, List, [], ap, arith, inl, inr, length, refl, subst, suc, sym}
+use Rattle.cap_spec.proofs.ProofNames.{w32, zero, ℕ, ◌*◌, ◌+◌, ◌<◌, ◌^◌, ◌∙◌, ◌≡◌, ◌≤◌, ◌⊎◌, eqb_tells}
 use Rattle.cap_spec.proofs.ProofNames.{element_levels, IsComposite, TagFits, HasWord, IsMessage, segment_of, code}
 use Rattle.cap_spec.proofs.ProofNames.{data_size, list_size, middle, pointer_size, IsDeepAt, levels_below}
 use Rattle.cap_ptr.specs.Shapes.{FindsObject, FindsTargetBy, IsShape}
 use Rattle.cap_ptr.specs.declared.shapes.Shape.{Shape}
 use Rattle.cap_ptr.specs.declared.shapes.Target.{Target}
 use Rattle.cap_vet.specs.VetNames.{levels_of, object_children, Ahead, element_rows}
-use Rattle.cap_trace.specs.TraceNames.{Step, Item, Ptr, IsBranch, rest_of, word_of, Pointers, Struct, Structs}
+use Rattle.cap_trace.specs.TraceNames.{Step, IsBranch, rest_of, row_branch, Pointers, Struct, Structs}
 use Rattle.cap_trace.proofs.Branches.{branch}
 use Rattle.cap_ptr.specs.declared.shapes.Shape.TheVariants as shape
 
-pub struct_words : (m : List (List ℕ)) (s w : ℕ) {k t b : ℕ} (q tag : ℕ) {n c : ℕ} (d : ℕ) {p at many : ℕ} (level : ℕ)
-    → FindsObject m s w k t b q tag n c (shape.Struct d p) → at ≡ b + d → 0 < p → many ≡ p → (base : List Step)
-    → word_of base (branch Struct t at (many - 1) many 0 0 0 (level + 1))
-    ∷ rest_of base (branch Struct t at (many - 1) many 0 0 0 (level + 1)) ≡ object_children base q tag t b level
-struct_words m s w q tag d {p = zero} level f e some g base = absurd (omega (arith, some))
-struct_words m s w {b} q tag d {p = suc p} {at} {many} level f e some g base =
+pub struct_words : (m : List (List ℕ)) (s w : ℕ) {k t b : ℕ} (q tag : ℕ) {n c : ℕ} (d : ℕ) {p at many : ℕ}
+    → FindsObject m s w k t b q tag n c (shape.Struct d p) → at ≡ b + d → many ≡ p → (base : List Step) (level : ℕ)
+    → rest_of base level (row_branch Struct t at many) ≡ object_children base q tag t b level
+struct_words m s w {b} q tag d {at} {many} f e g base level =
     let start : at ≡ b + data_size q = omega (arith, e, f.object.shape.data_words) in
-    let count : pointer_size q ≡ suc p = sym f.object.shape.pointers in
-    let one : suc p - 1 ≡ p = omega arith in
-    let first : suc p - (p + 1) ≡ 0 = omega arith in
-    rw (f.object.shape.kind, start, count, g, one, first) refl
+    let count : many ≡ pointer_size q = g ∙ f.object.shape.pointers in
+    rw (f.object.shape.kind, start, count) refl
 
 -- a list of pointers
-pub pointers_words : (m : List (List ℕ)) (s w : ℕ) {k t b : ℕ} (q tag : ℕ) {n c many : ℕ} (level : ℕ)
-    → FindsObject m s w k t b q tag n c (shape.Pointers many) → 0 < many → (base : List Step)
-    → word_of base (branch Pointers t b (many - 1) many 0 0 0 (level + 1))
-    ∷ rest_of base (branch Pointers t b (many - 1) many 0 0 0 (level + 1)) ≡ object_children base q tag t b level
-pointers_words m s w q tag {many = zero} level f some base = absurd (omega (arith, some))
-pointers_words m s w q tag {many = suc many} level f some base =
-    let count : list_size q ≡ suc many = sym f.object.shape.count in
-    let one : suc many - 1 ≡ many = omega arith in
-    let first : suc many - (many + 1) ≡ 0 = omega arith in
-    rw (f.object.shape.kind, f.object.shape.code, count, one, first) refl
+pub pointers_words : (m : List (List ℕ)) (s w : ℕ) {k t b : ℕ} (q tag : ℕ) {n c many : ℕ}
+    → FindsObject m s w k t b q tag n c (shape.Pointers many) → (base : List Step) (level : ℕ)
+    → rest_of base level (row_branch Pointers t b many) ≡ object_children base q tag t b level
+pointers_words m s w q tag f base level =
+    rw (f.object.shape.kind, f.object.shape.code, f.object.shape.count) refl
 
 -- elements that have no pointers have no pointer words
 no_pointers : (base : List Step) (level t b ds i n : ℕ) → element_rows base level t b ds 0 i n ≡ []
@@ -61,41 +52,24 @@ structs_fit m s w k t b q tag n c size count d p f =
     rw (f.object.shape.count, f.object.shape.data_words, f.object.shape.pointers) fits.1 in
     omega (arith, capacity, f.finds.inside.inside, extent_structs q f.object.shape.kind f.object.shape.code)
 
-pub structs_words : (m : List (List ℕ)) (s w : ℕ) {k t b : ℕ} (q tag : ℕ) {n c : ℕ} (size : ℕ) {count d p at many : ℕ} (level : ℕ)
-    → FindsObject m s w k t b q tag n c (shape.Structs size count d p) → at ≡ b + 1 + d → 0 < p → many ≡ p
-    → 0 < count → (base : List Step)
-    → word_of base (branch Structs t at (many - 1) many (count - 1) count d (level + 2))
-    ∷ rest_of base (branch Structs t at (many - 1) many (count - 1) count d (level + 2)) ≡ object_children base q tag t b level
-structs_words m s w q tag size {count = zero} level f e some g each base = absurd (omega (arith, each))
-structs_words m s w q tag size {count = suc count} {p = zero} level f e some g each base = absurd (omega (arith, some))
-structs_words m s w {b} q tag size {count = suc count} {d} {p = suc p} level f e some g each base =
-    let x : middle tag ≡ suc count = sym f.object.shape.count in
-    let y : data_size tag ≡ d = sym f.object.shape.data_words in
-    let z : pointer_size tag ≡ suc p = sym f.object.shape.pointers in
-    let one : suc p - 1 ≡ p = omega arith in
-    let rest : suc count - 1 ≡ count = omega arith in
-    let index : suc p - (p + 1) ≡ 0 = omega arith in
-    let element : suc count - (count + 1) ≡ 0 = omega arith in
-    let end : b + 1 + d + suc p ≡ b + 1 + d + 1 + p = omega arith in
-    let path : (base ++ Item 0 ∷ []) ++ Ptr 0 ∷ [] ≡ base ++ Item 0 ∷ Ptr 0 ∷ [] =
-    append_assoc base (Item 0 ∷ []) (Ptr 0 ∷ []) in
-    rw (f.object.shape.kind, f.object.shape.code, x, y, z, e, g, one, rest, index, element, end, path) refl
+pub structs_words : (m : List (List ℕ)) (s w : ℕ) {k t b : ℕ} (q tag : ℕ) {n c : ℕ} (size : ℕ) {count d p : ℕ}
+    → FindsObject m s w k t b q tag n c (shape.Structs size count d p) → (base : List Step) (level : ℕ)
+    → rest_of base level (branch Structs t (b + 1) count 0 d p) ≡ object_children base q tag t b level
+structs_words m s w q tag size f base level =
+    let two : level + 1 + 1 ≡ level + 2 = omega arith in
+    rw (f.object.shape.kind, f.object.shape.code, f.object.shape.count, f.object.shape.data_words, f.object.shape.pointers, two) refl
 
 -- the branch of a list of structs
-pub structs_branch : (m : List (List ℕ)) (s w : ℕ) {k t b : ℕ} (q tag : ℕ) {n c : ℕ} (size : ℕ) {count d p at many : ℕ} (level depth i : ℕ)
-    → FindsObject m s w k t b q tag n c (shape.Structs size count d p) → at ≡ b + 1 + d → 0 < p → many ≡ p
-    → 0 < count → p < 2 ^ 16 → i + 1 ≤ level → level + element_levels count ≤ depth
-    → IsBranch m depth (i + 1) (branch Structs t at (many - 1) many (count - 1) count d (level + 2))
-structs_branch m s w q tag size {count = zero} level depth i f e some g each short high low =
-    absurd (omega (arith, each))
-structs_branch m s w {k} {t} {b} q tag {n} {c} size {count = suc count} {d} {p} level depth i f e some g each short high low =
-    let rest : suc count - 1 ≡ count = omega arith in record {
-      exists = f.finds.inside.exists;
-      inside = rw (rest, g) (omega (arith, e, some, structs_fit m s w k t b q tag n c size (suc count) d p f));
-      counted = (omega (arith, g, some), omega arith, omega (arith, g, short));
-      high = omega arith;
-      low = omega arith;
-    }
+pub structs_branch : (m : List (List ℕ)) (s w : ℕ) {k t b : ℕ} (q tag : ℕ) {n c : ℕ} (size : ℕ) {count d p : ℕ} (depth level : ℕ)
+    → FindsObject m s w k t b q tag n c (shape.Structs size count d p) → 0 < p → 0 < count → count < 2 ^ 32 → p < 2 ^ 16
+    → level + element_levels count ≤ depth → IsBranch m depth level (branch Structs t (b + 1) count 0 d p)
+structs_branch m s w q tag size {count = zero} depth level f some each many short low = absurd (omega (arith, each))
+structs_branch m s w {k} {t} {b} q tag {n} {c} size {count = suc count} {d} {p} depth level f some each many short low = record {
+  exists = f.finds.inside.exists;
+  inside = structs_fit m s w k t b q tag n c size (suc count) d p f;
+  counted = (omega (arith, many), some, omega (arith, short));
+  shallow = omega (arith, low);
+}
 
 -- how many levels an object takes below its own, by its shape, and by its tag if it has one
 pub levels_shape : (q tag other : ℕ) (x : Shape) → IsShape q tag x → (IsComposite q → tag ≡ other)
@@ -120,10 +94,8 @@ not_deep m depth s w level q tag x f within (k, t, b, q', other, g, tagged, past
     (tagged (subst IsComposite same.shape h))) in
     omega (arith, levels, ap (λ (u : ℕ). levels_below u other) same.shape, within)
 
--- an element's start is a number of 32 bits
-pub start_fits : (m : List (List ℕ)) (s w : ℕ) {k t b : ℕ} (q tag : ℕ) {n c : ℕ} (size : ℕ) {count d : ℕ} (p at : ℕ) → IsMessage m
-    → FindsObject m s w k t b q tag n c (shape.Structs size count d p) → at ≡ d → (count ≡ 0 → ⊥) → Fits w32 (b + 1 + at)
-start_fits m s w q tag size {count = zero} p at h f e some = absurd (some refl)
-start_fits m s w {k} {t} {b} q tag {n} {c} size {count = suc count} {d} p at h f e some =
-    let short = short_segment m t h f.finds.inside.exists in
-    omega (arith, e, short, structs_fit m s w k t b q tag n c size (suc count) d p f)
+-- the start of the elements is a number of 32 bits
+pub start_fits : (m : List (List ℕ)) (s w : ℕ) {k t b : ℕ} (q tag : ℕ) {n c : ℕ} (size count d p : ℕ) → IsMessage m
+    → FindsObject m s w k t b q tag n c (shape.Structs size count d p) → Fits w32 (b + 1)
+start_fits m s w {k} {t} {b} q tag {n} {c} size count d p h f =
+    omega (arith, short_segment m t h f.finds.inside.exists, structs_fit m s w k t b q tag n c size count d p f)

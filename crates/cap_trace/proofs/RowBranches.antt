@@ -1,7 +1,7 @@
--- The first pointer word of an object that one word describes alone.
+-- The pointer words of an object that one word describes alone.
 use Rattle.cap_spec.proofs.Lemmas.{leads-near, object-not_wrong, one_object}
-use Rattle.cap_spec.proofs.ProofNames.{List, None, Some, [], ap, arith, false, inl, inr, ne_eqb, pos, refl, subst, suc}
-use Rattle.cap_spec.proofs.ProofNames.{sym, zero, ℕ, ◌++◌, ◌+◌, ◌-◌, ◌<◌, ◌==◌, ◌∙◌, ◌∷◌, ◌≡◌, ◌≤◌, Finds, IsComposite, to_object}
+use Rattle.cap_spec.proofs.ProofNames.{List, None, Some, [], ap, arith, false, inl, inr, ne_eqb, pos, refl, subst}
+use Rattle.cap_spec.proofs.ProofNames.{sym, ℕ, ◌++◌, ◌+◌, ◌<◌, ◌==◌, ◌∙◌, ◌∷◌, ◌≡◌, ◌≤◌, Finds, IsComposite, to_object}
 use Rattle.cap_spec.proofs.ProofNames.{HasWord, code, data_size, kind, list_size, pointer_size, levels_below}
 use Rattle.cap_ptr.specs.Rows.{FindsRow, HasPointers}
 use Rattle.cap_ptr.specs.declared.near.Row.{Row}
@@ -9,9 +9,8 @@ use Rattle.cap_ptr.proofs.NearObjects.{pointers-plain}
 use Rattle.cap_vet.specs.VetNames.{object_children, Ahead, IsTrail}
 use Rattle.cap_vet.proofs.OneTrail.{object_trail}
 use Rattle.cap_trace.specs.NearPointers.{IsNearPointer}
-use Rattle.cap_trace.specs.TraceNames.{Step, IsBranch, rest_of, word_of, PassesAt, GoesBelow, IsBlockedAt, Object, Branch}
-use Rattle.cap_trace.specs.Branches.{first_branch}
-use Rattle.cap_trace.specs.TraceNames.{Pointers, Struct}
+use Rattle.cap_trace.specs.TraceNames.{Step, IsBranch, rest_of, row_branch, words_left, PassesAt, GoesBelow, IsBlockedAt, Object}
+use Rattle.cap_trace.specs.TraceNames.{Branch, Form, Pointers, Struct, Structs}
 use Rattle.cap_trace.specs.declared.near.NearPointer.{NearPointer}
 
 -- such an object takes no levels below its own
@@ -58,27 +57,31 @@ no_children base q n t b level (inr (inr (k, some, few, e))) z =
     let six : (code q == 6) ≡ false = ne_eqb (code q) 6 (λ h. omega (arith, h, few)) in
     let seven : (code q == 7) ≡ false = ne_eqb (code q) 7 (λ h. omega (arith, h, few)) in rw (k, six, seven) refl
 
-pub row_none : (m : List (List ℕ)) (depth : ℕ) (from : Branch) (p : NearPointer) (r : Row)
-    → IsNearPointer m from.segment from.at p → FindsRow m p.segment p.at p.word r → from.level ≤ depth
-    → r.pointer_count ≡ 0 → GoesBelow m depth from (Object None)
-row_none m depth from p r h f within none = (
-  row_passes m depth from.segment from.at from.level p r h f within,
-  (λ n k. tt),
+pub row_none : (m : List (List ℕ)) (depth s w level : ℕ) (p : NearPointer) (r : Row) → IsNearPointer m s w p
+    → FindsRow m p.segment p.at p.word r → level ≤ depth → r.pointer_count ≡ 0 → GoesBelow m depth s w level (Object None)
+row_none m depth s w level p r h f within none = (
+  row_passes m depth s w level p r h f within,
+  tt,
   (λ seen path ahead t. subst (λ (u : List Ahead). IsTrail m (path ∷ seen) (u ++ ahead))
-      (no_children path p.word r.pointer_count p.segment r.start from.level f.pointers none)
-      (object_trail m seen _ ahead _ _ _ p.word 0 t (near_finds m from.segment from.at p r h f) (no_tag m p.segment p.at p.word r f))),
+      (no_children path p.word r.pointer_count p.segment r.start level f.pointers none)
+      (object_trail m seen _ ahead _ _ _ p.word 0 t (near_finds m s w p r h f) (no_tag m p.segment p.at p.word r f))),
 )
 
-pub row_some : (m : List (List ℕ)) (depth : ℕ) (from : Branch) (p : NearPointer) (r : Row) (b : Branch)
-    → IsNearPointer m from.segment from.at p → FindsRow m p.segment p.at p.word r → from.level ≤ depth
-    → ((base : List Step) → word_of base b ∷ rest_of base b ≡ object_children base p.word 0 p.segment r.start from.level)
-    → ((n : ℕ) → n + 1 ≤ from.level → IsBranch m depth (n + 1) b) → GoesBelow m depth from (Object (Some b))
-row_some m depth from p r b h f within words branches = (
-  row_passes m depth from.segment from.at from.level p r h f within,
-  (λ n k. branches n k.high),
-  (λ seen path ahead t. subst (λ (u : List Ahead). IsTrail m (path ∷ seen) (u ++ ahead)) (sym (words path))
-      (object_trail m seen _ ahead _ _ _ p.word 0 t (near_finds m from.segment from.at p r h f) (no_tag m p.segment p.at p.word r f))),
+pub row_some : (m : List (List ℕ)) (depth s w level : ℕ) (p : NearPointer) (r : Row) (b : Branch) → IsNearPointer m s w p
+    → FindsRow m p.segment p.at p.word r → level ≤ depth
+    → ((base : List Step) (level : ℕ) → rest_of base level b ≡ object_children base p.word 0 p.segment r.start level)
+    → IsBranch m depth level b → 0 < words_left b.form b → GoesBelow m depth s w level (Object (Some b))
+row_some m depth s w level p r b h f within words branch some = (
+  row_passes m depth s w level p r h f within,
+  (branch, has_left b.form b some),
+  (λ seen path ahead t. subst (λ (u : List Ahead). IsTrail m (path ∷ seen) (u ++ ahead)) (sym (words path level))
+      (object_trail m seen _ ahead _ _ _ p.word 0 t (near_finds m s w p r h f) (no_tag m p.segment p.at p.word r f))),
 )
+  where
+    has_left : (form : Form) (b : Branch) → 0 < words_left form b → 0 < b.left
+    has_left Struct b some = some
+    has_left Pointers b some = some
+    has_left Structs b some = absurd (omega (arith, some))
 
 -- A struct has as many pointers as its word says.
 pub struct_count : (q n : ℕ) → HasPointers q n → kind q ≡ 0 → n ≡ pointer_size q
@@ -93,19 +96,11 @@ list_count q n (inr (inl (k, c, e))) other some = (k, c, e)
 list_count q n (inr (inr (k, s, few, e))) other some = absurd (omega (arith, e, some))
 
 -- Its words are those of the branch,
-pub row_list_words : (q t b at n level : ℕ) → kind q ≡ 1 → code q ≡ 6 → at ≡ b → list_size q ≡ n → 0 < n → (base : List Step)
-    → word_of base (first_branch Pointers t at n (level + 1)) ∷ rest_of base (first_branch Pointers t at n (level + 1))
-    ≡ object_children base q 0 t b level
-row_list_words q t b at zero level k c start many some base = absurd (omega (arith, some))
-row_list_words q t b at (suc n) level k c start many some base =
-    let one : suc n - 1 ≡ n = omega arith in
-    let first : suc n - (n + 1) ≡ 0 = omega arith in rw (k, c, start, many, one, first) refl
+pub row_list_words : (q t b at n : ℕ) → kind q ≡ 1 → code q ≡ 6 → at ≡ b → n ≡ list_size q → (base : List Step) (level : ℕ)
+    → rest_of base level (row_branch Pointers t at n) ≡ object_children base q 0 t b level
+row_list_words q t b at n k c start many base level = rw (k, c, start, many) refl
 
 -- and so are those of a struct.
-pub row_struct_words : (q t b at n level : ℕ) → kind q ≡ 0 → at ≡ b + data_size q → pointer_size q ≡ n → 0 < n → (base : List Step)
-    → word_of base (first_branch Struct t at n (level + 1)) ∷ rest_of base (first_branch Struct t at n (level + 1))
-    ≡ object_children base q 0 t b level
-row_struct_words q t b at zero level k start many some base = absurd (omega (arith, some))
-row_struct_words q t b at (suc n) level k start many some base =
-    let one : suc n - 1 ≡ n = omega arith in
-    let first : suc n - (n + 1) ≡ 0 = omega arith in rw (k, start, many, one, first) refl
+pub row_struct_words : (q t b at n : ℕ) → kind q ≡ 0 → at ≡ b + data_size q → n ≡ pointer_size q → (base : List Step) (level : ℕ)
+    → rest_of base level (row_branch Struct t at n) ≡ object_children base q 0 t b level
+row_struct_words q t b at n k start many base level = rw (k, start, many) refl

@@ -1,13 +1,13 @@
 -- The first pointer that uses a word which a later one uses too.
 use Rattle.cap_spec.proofs.Lemmas.{Before-trans, one_of_last, one_reached, one_used}
 use Rattle.cap_spec.proofs.Paths.Preorder.{Before-total_coming, one_first, one_number}
-use Rattle.cap_spec.proofs.ProofNames.{List, None, Option, Some, [], arith, inl, inr, length-append, refl, subst, sym, ℕ}
+use Rattle.cap_spec.proofs.ProofNames.{List, None, Option, Some, [], arith, inl, inr, length, length-append, refl, subst, sym, ℕ}
 use Rattle.cap_spec.proofs.ProofNames.{◌++◌, ◌+◌, ◌<◌, ◌∷◌, ◌≡◌, ◌⊎◌, IsOneOf, Occupies, Uses, Before, IsNumbered}
 use Rattle.cap_spec.proofs.ProofNames.{Reaches, word, ap}
 use Rattle.cap_trace.specs.EarlierPointers.{IsEarlier, IsEarlierOf, IsFirstUsing, NoneUses, SharesBefore, ReportsEarlier}
 use Rattle.cap_trace.specs.EarlierPointers.{UsesOneAt}
 use Rattle.cap_trace.specs.NamedPaths.{IsTraced}
-use Rattle.cap_trace.specs.TraceNames.{Step, IsTraceable, HasCome, Branch, path_of}
+use Rattle.cap_trace.specs.TraceNames.{Step, IsTraceable, HasCome, Branch, WordPlace, path_of}
 use Rattle.cap_trace.specs.declared.earlier.EarlierPointer.{EarlierPointer}
 use Rattle.cap_trace.proofs.Coming.{numbered_here, traceable_here}
 use Rattle.cap_trace.proofs.Numbering.{Rises-last, number_order, one_numbered, rises_fewer}
@@ -62,16 +62,16 @@ none_between m n p q x s w s' w' level t b a c r before =
             later y (inr k) = Before-trans y p q k (Before-trans p x q after before)
 
 -- Where the word that the search is at uses none of the places, none before the next word does.
-pub still_none : (m : List (List ℕ)) (depth n : ℕ) (fs gs : List Branch) (f g : Branch) (places : List (ℕ × ℕ))
-    → HasCome m depth n fs f → HasCome m depth (n + 1) gs g → NoneUses m places (path_of (fs ++ f ∷ []))
-    → (UsesOneAt m f.segment f.at places → ⊥) → NoneUses m places (path_of (gs ++ g ∷ []))
+pub still_none : (m : List (List ℕ)) (depth n : ℕ) (fs gs : List Branch) (f g : WordPlace) (places : List (ℕ × ℕ))
+    → HasCome m depth n fs f → HasCome m depth (n + 1) gs g → NoneUses m places (path_of fs)
+    → (UsesOneAt m f.segment f.at places → ⊥) → NoneUses m places (path_of gs)
 still_none m depth n fs gs f g places h k none here = λ x before (y, u, i).
-    let p = path_of (fs ++ f ∷ []) in
-    let q = path_of (gs ++ g ∷ []) in
+    let p = path_of fs in
+    let q = path_of gs in
     elim (none_between m n p q x f.segment f.at g.segment g.at u.0 u.1 u.2 (numbered_here m depth n fs f h)
     (numbered_here m depth (n + 1) gs g k) u.4 before) [
       | inl e ↦ (
-          let there = used_there m p f.level f.segment f.at y h.trail.ahead_reached.0 (subst (λ (v : List Step). Uses m v y) e u) in
+          let there = used_there m p (length fs + 1) f.segment f.at y h.trail.ahead_reached.0 (subst (λ (v : List Step). Uses m v y) e u) in
           here (there.0, there.1, (y, there.2, i)))
       | inr b ↦ none x b (y, u, i)
     ]
@@ -81,70 +81,70 @@ pub none_first : (m : List (List ℕ)) (places : List (ℕ × ℕ)) → NoneUses
 none_first m places = λ x before u. absurd before
 
 -- The search has come to the word of the number: none before it uses one of the places.
-pub none_using : (m : List (List ℕ)) (depth n : ℕ) (fs : List Branch) (f : Branch) (places : List (ℕ × ℕ)) (path : List Step)
-    → HasCome m depth n fs f → NoneUses m places (path_of (fs ++ f ∷ [])) → IsTraceable m depth n path → NoneUses m places path
+pub none_using : (m : List (List ℕ)) (depth n : ℕ) (fs : List Branch) (f : WordPlace) (places : List (ℕ × ℕ)) (path : List Step)
+    → HasCome m depth n fs f → NoneUses m places (path_of fs) → IsTraceable m depth n path → NoneUses m places path
 none_using m depth n fs f places path h none a =
     subst (λ (u : List Step). NoneUses m places u)
-    (one_numbered m n (path_of (fs ++ f ∷ [])) path (numbered_here m depth n fs f h) a.numbered) none
+    (one_numbered m n (path_of fs) path (numbered_here m depth n fs f h) a.numbered) none
 
 -- The word that the search is at is the first that uses one of them.
-pub first_using_here : (m : List (List ℕ)) (depth n more : ℕ) (fs : List Branch) (f : Branch) (places : List (ℕ × ℕ))
-    (path : List Step) → HasCome m depth n fs f → NoneUses m places (path_of (fs ++ f ∷ []))
+pub first_using_here : (m : List (List ℕ)) (depth n more : ℕ) (fs : List Branch) (f : WordPlace) (places : List (ℕ × ℕ))
+    (path : List Step) → HasCome m depth n fs f → NoneUses m places (path_of fs)
     → UsesOneAt m f.segment f.at places → n < more → IsTraceable m depth more path
     → IsFirstUsing m places path (Some (record { segment = f.segment; word = f.at; pointers = n }))
 first_using_here m depth n more fs f places path h none (used, o, (x, i, j)) less a =
-    let p = path_of (fs ++ f ∷ []) in
+    let p = path_of fs in
     let here = numbered_here m depth n fs f h in (
       p,
       here,
       number_order m n more p path f.segment f.at a.segment a.at here a.numbered less,
-      (x, (f.level, f.segment, f.at, used, h.trail.ahead_reached.0, o, i), j),
+      (x, ((length fs + 1), f.segment, f.at, used, h.trail.ahead_reached.0, o, i), j),
       none,
     )
 
 -- The named path reaches the word that the search has come to.
-named_here : (m : List (List ℕ)) (depth n : ℕ) (fs : List Branch) (f : Branch) (path : List Step) → HasCome m depth n fs f
-    → IsTraceable m depth n path → Reaches m path f.level f.segment f.at
+named_here : (m : List (List ℕ)) (depth n : ℕ) (fs : List Branch) (f : WordPlace) (path : List Step) → HasCome m depth n fs f
+    → IsTraceable m depth n path → Reaches m path (length fs + 1) f.segment f.at
 named_here m depth n fs f path h a =
-    subst (λ (u : List Step). Reaches m u f.level f.segment f.at)
-    (one_numbered m n (path_of (fs ++ f ∷ [])) path (numbered_here m depth n fs f h) a.numbered) h.trail.ahead_reached.0
+    subst (λ (u : List Step). Reaches m u (length fs + 1) f.segment f.at)
+    (one_numbered m n (path_of fs) path (numbered_here m depth n fs f h) a.numbered) h.trail.ahead_reached.0
 
 -- Where the named pointer can't be followed, no other uses a word of it.
-pub none_unused : (m : List (List ℕ)) (depth n : ℕ) (fs : List Branch) (f : Branch) (path : List Step) → HasCome m depth n fs f
+pub none_unused : (m : List (List ℕ)) (depth n : ℕ) (fs : List Branch) (f : WordPlace) (path : List Step) → HasCome m depth n fs f
     → IsTraceable m depth n path → ((used : List (ℕ × ℕ)) → Occupies m f.segment f.at used → ⊥) → (other : List Step)
     → SharesBefore m path other → ⊥
 none_unused m depth n fs f path h a none other k =
-    let there = used_there m path f.level f.segment f.at k.place (named_here m depth n fs f path h a) k.later in
+    let there = used_there m path (length fs + 1) f.segment f.at k.place (named_here m depth n fs f path h a) k.later in
     none there.0 there.1
 
 -- Where the places are those that the named pointer uses, it is the earlier pointer.
-pub earlier_of_using : (m : List (List ℕ)) (depth n : ℕ) (fs : List Branch) (f : Branch) (path : List Step) (places : List (ℕ × ℕ))
+pub earlier_of_using : (m : List (List ℕ)) (depth n : ℕ) (fs : List Branch) (f : WordPlace) (path : List Step) (places : List (ℕ × ℕ))
     (result : Option EarlierPointer) → HasCome m depth n fs f → IsTraceable m depth n path → Occupies m f.segment f.at places
     → IsFirstUsing m places path result → IsEarlierOf m path result
 earlier_of_using m depth n fs f path places None h a o none = λ other k.
-    let there = used_there m path f.level f.segment f.at k.place (named_here m depth n fs f path h a) k.later in
+    let there = used_there m path (length fs + 1) f.segment f.at k.place (named_here m depth n fs f path h a) k.later in
     none other k.before (k.place, k.earlier, one_of_used m f.segment f.at places k.place o there)
 earlier_of_using m depth n fs f path places (Some e) h a o (other, numbered, before, (x, u, i), none) =
     let r = named_here m depth n fs f path h a in record {
       other = other;
       numbered = numbered;
       first = record {
-        holds = record { before = before; place = x; earlier = u; later = (f.level, f.segment, f.at, places, r, o, i) };
+        holds = record { before = before; place = x; earlier = u; later = ((length fs + 1), f.segment, f.at, places, r, o, i) };
         first = λ q b k. none q b (
           k.place,
           k.earlier,
-          one_of_used m f.segment f.at places k.place o (used_there m path f.level f.segment f.at k.place r k.later),
+          one_of_used m f.segment f.at places k.place o (used_there m path (length fs + 1) f.segment f.at k.place r k.later),
         );
       };
     }
 
 -- So it is of the word that the search has come to.
-pub earlier_reported : (m : List (List ℕ)) (depth n : ℕ) (fs : List Branch) (f : Branch) (places : List (ℕ × ℕ))
+pub earlier_reported : (m : List (List ℕ)) (depth n : ℕ) (fs : List Branch) (f : WordPlace) (places : List (ℕ × ℕ))
     (result : Option EarlierPointer) → HasCome m depth n fs f → Occupies m f.segment f.at places
     → ((path : List Step) → IsTraceable m depth n path → IsFirstUsing m places path result) → ReportsEarlier m depth n result
 earlier_reported m depth n fs f places None h o first = λ path a. earlier_of_using m depth n fs f path places None h a o (first path a)
 earlier_reported m depth n fs f places (Some e) h o first =
-    let path = path_of (fs ++ f ∷ []) in
+    let path = path_of fs in
     let a = traceable_here m depth n fs f h in
     (path, a, earlier_of_using m depth n fs f path places (Some e) h a o (first path a))
 

@@ -1,103 +1,105 @@
--- The objects on the way down to a pointer word, and the pointer words that come after it (profile).
-use Rattle.std.specs.Prelude.{List, None, Option, Some, [], length, ℕ, ⊤, ◌*◌, ◌++◌, ◌+◌, ◌-◌, ◌<◌, ◌^◌, ◌∷◌, ◌≡◌, ◌≤◌}
+-- The steps of a search down to a pointer word, and the pointer words that come after it (profile).
+use Rattle.std.specs.Prelude.{List, [], length, map, ℕ, ⊤, ◌*◌, ◌++◌, ◌+◌, ◌-◌, ◌<◌, ◌^◌, ◌∷◌, ◌≤◌}
 use Rattle.cap_spec.specs.Messages.{segment_of}
 use Rattle.cap_spec.specs.declared.Step.{Step}
 use Rattle.cap_spec.specs.declared.Step.TheVariants.{Item, Ptr}
 use Rattle.cap_vet.specs.Trails.{Ahead, element_rows, row}
 use Rattle.cap_trace.specs.declared.branch.Branch.{Branch}
 use Rattle.cap_trace.specs.declared.branch.Form.{Form}
-use Rattle.cap_trace.specs.declared.branch.Form.TheVariants.{Pointers, Root, Struct, Structs}
+use Rattle.cap_trace.specs.declared.branch.Form.TheVariants.{Pointers, Struct, Structs}
+use Rattle.cap_trace.specs.declared.branch.WordPlace.{WordPlace}
 
--- which word of its row it is, and which element the row belongs to, from 0
-abbrev pub index_of : Branch → ℕ
-index_of f = f.row - (f.left + 1)
+-- the step to number i
+abbrev pub form_step : Form → ℕ → Step
+form_step Struct i = Ptr i
+form_step Pointers i = Item i
+form_step Structs i = Item i
 
-abbrev pub element_of : Branch → ℕ
-element_of f = f.elements - (f.more + 1)
+-- the step to the last one that was taken
+abbrev pub step_of : Branch → Step
+step_of f = form_step f.form (f.taken - 1)
 
--- the steps from the object to the word
-abbrev pub form_steps : Form → Branch → List Step
-form_steps Root f = []
-form_steps Struct f = Ptr (index_of f) ∷ []
-form_steps Pointers f = Item (index_of f) ∷ []
-form_steps Structs f = Item (element_of f) ∷ Ptr (index_of f) ∷ []
-
-abbrev pub steps_of : Branch → List Step
-steps_of f = form_steps f.form f
-
--- the path to the word of the last branch, from the base
-abbrev pub path_from : List Step → List Branch → List Step
-path_from base [] = base
-path_from base (f ∷ branches) = path_from (base ++ steps_of f) branches
-
--- the path from the root
+-- the path over these steps
 abbrev pub path_of : List Branch → List Step
-path_of branches = path_from [] branches
+path_of branches = map step_of branches
 
--- the word, reached over an object at the base
-abbrev pub word_of : List Step → Branch → Ahead
-word_of base f = record { path = base ++ steps_of f; segment = f.segment; word = f.at; level = f.level }
+-- the pointer words that are left of an object of this level, which the base leads to
+abbrev pub form_rest : Form → List Step → ℕ → Branch → List Ahead
+form_rest Struct base level f = row base (level + 1) Ptr f.segment f.next f.taken f.left
+form_rest Pointers base level f = row base (level + 1) Item f.segment f.next f.taken f.left
+form_rest Structs base level f =
+    element_rows base (level + 1 + 1) f.segment f.next f.data_words f.pointers f.taken f.left
 
--- the words of the object after it
-abbrev pub form_rest : Form → List Step → Branch → List Ahead
-form_rest Root base f = []
-form_rest Struct base f = row base f.level Ptr f.segment (f.at + 1) (index_of f + 1) f.left
-form_rest Pointers base f = row base f.level Item f.segment (f.at + 1) (index_of f + 1) f.left
-form_rest Structs base f =
-    row (base ++ Item (element_of f) ∷ []) f.level Ptr f.segment (f.at + 1) (index_of f + 1) f.left
-    ++ element_rows base f.level f.segment (f.at + 1 + f.left) f.data_words f.row (element_of f + 1) f.more
+abbrev pub rest_of : List Step → ℕ → Branch → List Ahead
+rest_of base level f = form_rest f.form base level f
 
-abbrev pub rest_of : List Step → Branch → List Ahead
-rest_of base f = form_rest f.form base f
+-- those of all objects on the way down, the last object's first
+abbrev pub rest_from : List Step → ℕ → List Branch → List Ahead
+rest_from base level [] = []
+rest_from base level (f ∷ branches) =
+    rest_from (base ++ step_of f ∷ []) (level + 1) branches ++ rest_of base level f
 
--- those after it of all objects on the way down, the last object's first
-abbrev pub rest_from : List Step → List Branch → List Ahead
-rest_from base [] = []
-rest_from base (f ∷ branches) = rest_from (base ++ steps_of f) branches ++ rest_of base f
+-- how many words are left of a row
+abbrev pub words_left : Form → Branch → ℕ
+words_left Struct f = f.left
+words_left Pointers f = f.left
+words_left Structs f = 0
 
--- the words of an object, of which the first is that of the branch
-abbrev pub words_of_object : List Step → Option Branch → List Ahead
-words_of_object base None = []
-words_of_object base (Some f) = word_of base f ∷ rest_of base f
+-- how many words those that are left take
+abbrev pub words_taken : Form → Branch → ℕ
+words_taken Struct f = f.left
+words_taken Pointers f = f.left
+words_taken Structs f = f.left * (f.data_words + f.pointers)
 
--- The word and the element are among those of the object, and a pointer's number has 16 bits.
+-- Their numbers have 32 bits, and those of a struct's pointers 16. Elements have pointers.
 abbrev pub IsCounted : Form → Branch → Type 0
-IsCounted Root f = (f.left ≡ 0) × (f.more ≡ 0) × (f.row ≡ 1)
-IsCounted Struct f = (f.left < f.row) × (f.more ≡ 0) × (f.row ≤ 2 ^ 16)
-IsCounted Pointers f = (f.left < f.row) × (f.more ≡ 0)
-IsCounted Structs f = (f.left < f.row) × (f.more < f.elements) × (f.row ≤ 2 ^ 16)
+IsCounted Struct f = f.taken + f.left ≤ 2 ^ 16
+IsCounted Pointers f = f.taken + f.left < 2 ^ 32
+IsCounted Structs f = (f.taken + f.left < 2 ^ 32) × (0 < f.pointers) × (f.pointers ≤ 2 ^ 16)
 
--- The words lie inside their segment. The branch is number n from the root, counted from 0.
-pub record IsBranch (m : List (List ℕ)) (depth n : ℕ) (f : Branch) : Type 0 where
+-- how many levels they take below that of the object
+abbrev pub levels_in : Form → ℕ
+levels_in Struct = 0
+levels_in Pointers = 0
+levels_in Structs = 1
+
+-- The words lie inside their segment, and the object is within the depth limit.
+pub record IsBranch (m : List (List ℕ)) (depth level : ℕ) (f : Branch) : Type 0 where
   pub exists : f.segment < length m
-  pub inside : f.at + 1 + f.left + f.more * (f.data_words + f.row) ≤ length (segment_of m f.segment)
+  pub inside : f.next + words_taken f.form f ≤ length (segment_of m f.segment)
   pub counted : IsCounted f.form f
-  pub high : n + 1 ≤ f.level
-  pub low : f.level ≤ depth + 1
+  pub shallow : level + levels_in f.form ≤ depth
 
--- each is a branch, the first of them number n
+-- each is a branch, the first of them of an object of this level
 abbrev pub AreBranches : List (List ℕ) → ℕ → ℕ → List Branch → Type 0
-AreBranches m depth n [] = ⊤
-AreBranches m depth n (f ∷ branches) = IsBranch m depth n f × AreBranches m depth (n + 1) branches
+AreBranches m depth level [] = ⊤
+AreBranches m depth level (f ∷ branches) =
+    IsBranch m depth level f × AreBranches m depth (level + 1) branches
 
--- the branch after n words of its row
+-- the next word of a row
+abbrev pub place_of : Branch → WordPlace
+place_of f = record { segment = f.segment; at = f.next }
+
+-- the row after n words
 abbrev pub skipped : Branch → ℕ → Branch
-skipped f n = record f { at = f.at + n; left = f.left - n }
+skipped f n = record f { next = f.next + n; left = f.left - n; taken = f.taken + n }
 
--- the branch of the root word alone
-abbrev pub root_branch : Branch
-root_branch = record {
-  form = Root;
-  segment = 0;
-  at = 0;
-  left = 0;
-  row = 1;
-  more = 0;
-  elements = 0;
+-- a row of n pointers, of which none is taken
+abbrev pub row_branch : Form → ℕ → ℕ → ℕ → Branch
+row_branch form s at n = record {
+  form = form;
+  segment = s;
+  next = at;
+  left = n;
+  taken = 0;
   data_words = 0;
-  level = 1;
+  pointers = 0;
 }
 
--- the branch at the first pointer word of an object whose row has n words
-abbrev pub first_branch : Form → ℕ → ℕ → ℕ → ℕ → Branch
-first_branch form s at n level = record root_branch { form = form; segment = s; at = at; left = n - 1; row = n; level = level }
+-- the pointers of the next element
+abbrev pub element_row : Branch → Branch
+element_row f = row_branch Struct f.segment (f.next + f.data_words) f.pointers
+
+-- the elements after the next one
+abbrev pub past_element : Branch → Branch
+past_element f = record f { next = f.next + f.data_words + f.pointers; left = f.left - 1; taken = f.taken + 1 }

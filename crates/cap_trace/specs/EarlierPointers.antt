@@ -11,6 +11,7 @@ use Rattle.cap_vet.specs.declared.nodes.place.Place.{Place}
 use Rattle.cap_trace.specs.PointerNumbers.{IsTraceable}
 use Rattle.cap_trace.specs.Traces.{HasCome}
 use Rattle.cap_trace.specs.declared.branch.Branch.{Branch}
+use Rattle.cap_trace.specs.declared.branch.WordPlace.{WordPlace}
 use Rattle.cap_trace.specs.declared.earlier.EarlierPointer.{EarlierPointer}
 use Rattle.cap_trace.specs.declared.used_words.UsedWords.{UsedWords}
 
@@ -88,6 +89,6 @@ abbrev pub ReportsUsed : List (List ℕ) → ℕ → ℕ → Option UsedWords �
 ReportsUsed m s w None = (used : List (ℕ × ℕ)) → ¬ Occupies m s w used
 ReportsUsed m s w (Some used) = Occupies m s w (places_of used)
 
--- the search can come to the pointer word of number n, after the others on the way down
-abbrev pub ComesTo : List (List ℕ) → ℕ → ℕ → Branch → Type 0
-ComesTo m depth n last = (others : List Branch) × HasCome m depth n others last
+-- the search can come to the pointer word of number n at this place
+abbrev pub ComesTo : List (List ℕ) → ℕ → ℕ → WordPlace → Type 0
+ComesTo m depth n here = (branches : List Branch) × HasCome m depth n branches here

@@ -3,13 +3,14 @@ pub use Rattle.cap_spec.specs.declared.Lax.{Lax}
 pub use Rattle.cap_spec.specs.declared.Refusal.{Refusal}
 pub use Rattle.cap_spec.specs.declared.Step.{Step}
 pub use Rattle.cap_spec.specs.declared.Step.TheVariants.{Item, Ptr}
-pub use Rattle.cap_trace.specs.Branches.{AreBranches, IsBranch, IsCounted, path_of, rest_from, rest_of, skipped}
-pub use Rattle.cap_trace.specs.Branches.{steps_of, word_of}
+pub use Rattle.cap_trace.specs.Branches.{AreBranches, IsBranch, path_of, place_of, rest_from, rest_of, row_branch, skipped}
+pub use Rattle.cap_trace.specs.Branches.{step_of, words_left}
 pub use Rattle.cap_trace.specs.PointerNumbers.{IsTraceable, PassesAt}
-pub use Rattle.cap_trace.specs.Traces.{GivesPath, GoesBelow, HasCome, IsBlockedAt, IsPut, IsSearch, ReportsPath}
+pub use Rattle.cap_trace.specs.Traces.{GivesPath, GoesBelow, HasCome, HasPassed, IsBlockedAt, IsPut, ReportsPath}
 pub use Rattle.cap_trace.specs.Traces.{word_ahead}
 pub use Rattle.cap_trace.specs.declared.below.Below.{Below}
 pub use Rattle.cap_trace.specs.declared.below.Below.TheVariants.{Object}
 pub use Rattle.cap_trace.specs.declared.branch.Branch.{Branch}
 pub use Rattle.cap_trace.specs.declared.branch.Form.{Form}
-pub use Rattle.cap_trace.specs.declared.branch.Form.TheVariants.{Pointers, Root, Struct, Structs}
+pub use Rattle.cap_trace.specs.declared.branch.Form.TheVariants.{Pointers, Struct, Structs}
+pub use Rattle.cap_trace.specs.declared.branch.WordPlace.{WordPlace}

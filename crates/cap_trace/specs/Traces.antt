@@ -1,55 +1,69 @@
 -- How a search for the pointer word of a number goes on, and what it comes to (profile).
 use Rattle.std.specs.Prelude.{List, None, Option, Some, [], drop, length, map, ℕ, ⊤, ◌++◌, ◌+◌, ◌<◌, ◌∷◌, ◌≡◌, ◌≤◌, ◌⊎◌}
+use Rattle.cap_spec.specs.Messages.{segment_of}
 use Rattle.cap_spec.specs.Paths.{IsTour}
 use Rattle.cap_spec.specs.SpecNames.{Wrong, Before, IsDeepAt}
 use Rattle.cap_spec.specs.declared.Reason.{Reason}
 use Rattle.cap_spec.specs.declared.Step.{Step}
 use Rattle.cap_vet.specs.Trails.{Ahead, IsTrail}
-use Rattle.cap_trace.specs.Branches.{AreBranches, IsBranch, path_of, rest_from, words_of_object}
+use Rattle.cap_trace.specs.Branches.{AreBranches, IsBranch, path_of, rest_from, rest_of}
 use Rattle.cap_trace.specs.PointerNumbers.{IsPassable, IsTraceable, PassesAt}
 use Rattle.cap_trace.specs.declared.below.Below.{Below}
 use Rattle.cap_trace.specs.declared.below.Below.TheVariants.{Blocked, Object}
 use Rattle.cap_trace.specs.declared.branch.Branch.{Branch}
+use Rattle.cap_trace.specs.declared.branch.WordPlace.{WordPlace}
 
+-- the pointer words of an object of this level, if it has some
+abbrev pub words_of_object : List Step → ℕ → Option Branch → List Ahead
+words_of_object base level None = []
+words_of_object base level (Some f) = rest_of base level f
+
+-- It is a branch with words left, if there is one.
 abbrev pub OptionBranch : List (List ℕ) → ℕ → ℕ → Option Branch → Type 0
-OptionBranch m depth n None = ⊤
-OptionBranch m depth n (Some f) = IsBranch m depth n f
+OptionBranch m depth level None = ⊤
+OptionBranch m depth level (Some f) = IsBranch m depth level f × (0 < f.left)
 
 -- The pointer can't be followed, or leads to an object past the depth limit.
 abbrev pub IsBlockedAt : List (List ℕ) → ℕ → ℕ → ℕ → ℕ → Type 0
 IsBlockedAt m depth s w level = ((v : Reason) × Wrong m s w v) ⊎ IsDeepAt m depth s w level
 
--- The pointer passes. Then its object's words are ahead, and after them the others. Or there is no way on.
-abbrev pub GoesBelow : List (List ℕ) → ℕ → Branch → Below → Type 0
-GoesBelow m depth from (Object below) =
-    PassesAt m depth from.segment from.at from.level
-    × ((n : ℕ) → IsBranch m depth n from → OptionBranch m depth (n + 1) below)
+-- The pointer at s:w passes. Then its object's words are ahead, and after them the others. Or there is no way on.
+abbrev pub GoesBelow : List (List ℕ) → ℕ → ℕ → ℕ → ℕ → Below → Type 0
+GoesBelow m depth s w level (Object below) =
+    PassesAt m depth s w level
+    × OptionBranch m depth level below
     × ((seen : List (List Step)) (path : List Step) (ahead : List Ahead)
-    → IsTrail m seen (record { path = path; segment = from.segment; word = from.at; level = from.level } ∷ ahead)
-    → IsTrail m (path ∷ seen) (words_of_object path below ++ ahead))
-GoesBelow m depth from Blocked = IsBlockedAt m depth from.segment from.at from.level
+    → IsTrail m seen (record { path = path; segment = s; word = w; level = level } ∷ ahead)
+    → IsTrail m (path ∷ seen) (words_of_object path level below ++ ahead))
+GoesBelow m depth s w level Blocked = IsBlockedAt m depth s w level
 
--- the word of the last branch, as a word ahead
-abbrev pub word_ahead : List Step → Branch → Ahead
-word_ahead path f = record { path = path; segment = f.segment; word = f.at; level = f.level }
+-- the word after these steps, as a word ahead
+abbrev pub word_ahead : List Branch → WordPlace → Ahead
+word_ahead branches here =
+    record { path = path_of branches; segment = here.segment; word = here.at; level = length branches + 1 }
 
--- The search has come to the word of the branch, after the others on the way down. It is number n in preorder, and
--- each pointer before it passes. The others are fewer than n.
-pub record HasCome (m : List (List ℕ)) (depth n : ℕ) (others : List Branch) (last : Branch) : Type 0 where
+-- The search has come to this word over these steps. It is number n in preorder, and each pointer before it passes.
+pub record HasCome (m : List (List ℕ)) (depth n : ℕ) (branches : List Branch) (here : WordPlace) : Type 0 where
   pub seen : List (List Step)
-  pub trail : IsTrail m seen (word_ahead (path_of (others ++ last ∷ [])) last ∷ rest_from [] (others ++ last ∷ []))
+  pub trail : IsTrail m seen (word_ahead branches here ∷ rest_from [] 1 branches)
   pub tour : List (List Step)
-  pub is_tour : IsTour m (path_of (others ++ last ∷ [])) tour
+  pub is_tour : IsTour m (path_of branches) tour
   pub number : n ≡ length tour
-  pub branches : AreBranches m depth 0 (others ++ last ∷ [])
-  pub passable : (q : List Step) → Before q (path_of (others ++ last ∷ [])) → IsPassable m depth q
-  pub few : length others < n
+  pub stack : AreBranches m depth 1 branches
+  pub exists : here.segment < length m
+  pub inside : here.at < length (segment_of m here.segment)
+  pub passable : (q : List Step) → Before q (path_of branches) → IsPassable m depth q
 
--- The last of these branches is that of the word that the search has come to, and the others are those before it.
-pub record IsSearch (m : List (List ℕ)) (depth n : ℕ) (branches : List Branch) (last : Branch) : Type 0 where
-  pub others : List Branch
-  pub parts : branches ≡ others ++ last ∷ []
-  pub come : HasCome m depth n others last
+-- The search has looked at the word of number n. What these branches have left comes after it, and each pointer up to it passes.
+pub record HasPassed (m : List (List ℕ)) (depth n : ℕ) (branches : List Branch) : Type 0 where
+  pub path : List Step
+  pub seen : List (List Step)
+  pub trail : IsTrail m (path ∷ seen) (rest_from [] 1 branches)
+  pub tour : List (List Step)
+  pub is_tour : IsTour m path tour
+  pub number : n ≡ length tour
+  pub stack : AreBranches m depth 1 branches
+  pub passable : (q : List Step) → (q ≡ path) ⊎ Before q path → IsPassable m depth q
 
 -- no path of this number can be traced
 abbrev pub IsMissing : List (List ℕ) → ℕ → ℕ → Type 0

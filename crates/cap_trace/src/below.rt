@@ -1,15 +1,14 @@
 //! What a pointer word leads to, as the object that the way goes on through.
 
 ghost use Rattle.cap_ptr.specs.Shapes.{FindsTarget, FindsTargetBy};
-ghost use Rattle.cap_spec.specs.Messages.{IsMessage};
+ghost use Rattle.cap_spec.specs.Messages.{IsMessage, segment_of};
 ghost use Rattle.cap_spec.specs.declared.Step.{Step};
-ghost use Rattle.cap_trace.specs.Branches.{IsBranch, words_of_object};
-ghost use Rattle.cap_trace.specs.Traces.{GoesBelow, OptionBranch};
+ghost use Rattle.cap_trace.specs.Traces.{GoesBelow, OptionBranch, words_of_object};
 ghost use Rattle.cap_vet.specs.Levels.{levels_of};
 ghost use Rattle.cap_vet.specs.Looking.{object_children};
-ghost use Rattle.std.specs.Prelude.{◌+◌, ◌<◌, ◌^◌, ◌≡◌, ◌≤◌, List, ℕ};
+ghost use Rattle.std.specs.Prelude.{◌+◌, ◌<◌, ◌^◌, ◌≡◌, ◌≤◌, List, length, ℕ};
 
-use crate::branch::{Branch, Form};
+use crate::branch::{Branch, Form, WordPlace};
 use cap_frame::Segments;
 use cap_ptr::{Followed, Shape, Target, follow};
 
@@ -21,15 +20,21 @@ pub(crate) enum Below {
     Blocked,
 }
 
-/// Where a way goes on after this pointer word.
+/// Where a way goes on after the pointer word at this place, which leads to this level.
 #[inline(always)]
-pub(crate) fn look_below<M: Segments>(message: &M, depth: u32, from: &Branch) -> Below
-    requires shallow { depth ≤ 256 }
-    requires branch { (n : ℕ) × IsBranch (M.segments message.now) depth n from.now }
-    ensures { GoesBelow (M.segments message.now) depth from.now result }
+pub(crate) fn look_below<M: Segments>(
+    message: &M,
+    depth: u32,
+    from: &WordPlace,
+    level: u32,
+) -> Below
+    requires exists { from.now.segment < length (M.segments message.now) }
+    requires inside { from.now.at < length (segment_of (M.segments message.now) from.now.segment) }
+    requires level { level ≤ 257 }
+    ensures { GoesBelow (M.segments message.now) depth from.now.segment from.now.at level result }
 {
     match follow(message, from.segment, from.at) {
-        Ok(Followed::Target(target)) => below_target(&target, depth, from),
+        Ok(Followed::Target(target)) => below_target(&target, depth, level),
         Ok(Followed::Null { .. }) => Below::Object(None),
         Ok(Followed::Cap { .. }) => Below::Object(None),
         Err(_) => Below::Blocked,
@@ -38,17 +43,16 @@ pub(crate) fn look_below<M: Segments>(message: &M, depth: u32, from: &Branch) ->
 
 /// The same of a word that leads to this target.
 #[inline(always)]
-pub(crate) fn below_target(target: &Target, depth: u32, from: &Branch) -> Below
-    requires found { (m : List (List ℕ)) × IsMessage m
-        × FindsTarget m from.now.segment from.now.at target.now }
-    requires level { from.now.level ≤ 257 }
-    ensures { (m : List (List ℕ)) → FindsTarget m from.now.segment from.now.at target.now →
-        GoesBelow m depth from.now result }
+pub(crate) fn below_target(target: &Target, depth: u32, level: u32) -> Below
+    requires found { (m : List (List ℕ)) × (s w : ℕ) × IsMessage m × FindsTarget m s w target.now }
+    requires level { level ≤ 257 }
+    ensures { (m : List (List ℕ)) (s w : ℕ) → FindsTarget m s w target.now →
+        GoesBelow m depth s w level result }
 {
-    if from.level + levels_taken(&target.shape) > depth {
+    if level + levels_taken(&target.shape) > depth {
         return Below::Blocked;
     }
-    Below::Object(branch_of(target, from.level))
+    Below::Object(branch_of(target))
 }
 
 // How many levels an object takes below its own.
@@ -63,18 +67,17 @@ fn levels_taken(shape: &Shape) -> u32
     }
 }
 
-// The first pointer word of an object of this level, if it has pointers.
+// The pointer words of an object, if it has pointers.
 #[inline(always)]
-fn branch_of(target: &Target, level: u32) -> Option<Branch>
+fn branch_of(target: &Target) -> Option<Branch>
     requires found { (m : List (List ℕ)) × (s w q tag : ℕ) × IsMessage m
         × FindsTargetBy m s w q tag target.now }
-    requires level { level < 2 ^ 31 }
-    ensures words { (m : List (List ℕ)) (s w q tag : ℕ) → FindsTargetBy m s w q tag target.now →
-        (base : List Step) → words_of_object base result
-        ≡ object_children base q tag target.now.segment target.now.start level }
-    ensures branch { (m : List (List ℕ)) (s w q tag depth n : ℕ) →
-        FindsTargetBy m s w q tag target.now → n + 1 ≤ level →
-        level + levels_of target.now.shape ≤ depth → OptionBranch m depth (n + 1) result }
+    ensures words { let x = target.now in (m : List (List ℕ)) (s w q tag : ℕ) →
+        FindsTargetBy m s w q tag x → (base : List Step) (level : ℕ) →
+        words_of_object base level result ≡ object_children base q tag x.segment x.start level }
+    ensures branch { (m : List (List ℕ)) (s w q tag depth level : ℕ) →
+        FindsTargetBy m s w q tag target.now → level + levels_of target.now.shape ≤ depth →
+        OptionBranch m depth level result }
 {
     let (segment, start) = (target.segment, target.start);
     match target.shape {
@@ -86,14 +89,14 @@ fn branch_of(target: &Target, level: u32) -> Option<Branch>
                 return None;
             }
             let at = start + u32::from(data_words);
-            Some(Branch::first(Form::Struct, segment, at, u32::from(pointers), level + 1))
+            Some(Branch::row(Form::Struct, segment, at, u32::from(pointers)))
         }
         Shape::Scalars { .. } => None,
         Shape::Pointers { count } => {
             if count == 0 {
                 return None;
             }
-            Some(Branch::first(Form::Pointers, segment, start, count, level + 1))
+            Some(Branch::row(Form::Pointers, segment, start, count))
         }
         Shape::Structs {
             count,
@@ -104,9 +107,11 @@ fn branch_of(target: &Target, level: u32) -> Option<Branch>
             if count == 0 || pointers == 0 {
                 return None;
             }
-            let at = start + 1 + u32::from(data_words);
-            let first = Branch::first(Form::Structs, segment, at, u32::from(pointers), level + 2);
-            Some(first.of_elements(count, data_words))
+            Some(Branch {
+                data_words,
+                pointers,
+                ..Branch::row(Form::Structs, segment, start + 1, count)
+            })
         }
     }
 }

@@ -1,150 +1,134 @@
-//! An object on the way down to a pointer word.
+//! A step on the way down to a pointer word, and the words that come after it.
 
-ghost use Rattle.cap_spec.specs.Messages.{IsMessage};
-ghost use Rattle.cap_spec.specs.declared.Step.{Step};
-ghost use Rattle.cap_trace.specs.Branches.{IsBranch, IsCounted, element_of, first_branch, index_of, rest_of, root_branch, skipped, word_of};
-ghost use Rattle.std.specs.Prelude.{◌-◌, ◌<◌, ◌≡◌, ◌≤◌, [], ◌∷◌, IsFalse, IsTrue, List, ℕ};
+ghost use Rattle.cap_trace.specs.Branches.{IsCounted, element_row, past_element, place_of, row_branch, skipped, step_of, words_left};
+ghost use Rattle.std.specs.Prelude.{◌+◌, ◌<◌, ◌^◌, ◌≡◌, ◌≤◌};
 
-/// How the steps lead from an object to its pointer word.
+use cap_spec::Step;
+
+/// What a search takes one after the other.
 #[derive(Clone, Copy, Default)]
 pub(crate) enum Form {
-    /// The root word, which no step leads to.
+    /// The pointers of a struct, or of an element of a list of structs.
     #[default]
-    Root,
-    /// The pointer of a struct.
     Struct,
-    /// The element of a list of pointers.
+    /// The pointers of a list.
     Pointers,
-    /// The element of a list of structs, and the pointer of that element.
+    /// The elements of a list of structs.
     Structs,
 }
 
-/// A pointer word of an object, and the words of the object after it. The pointers of a struct or of an
-/// element, and those of a list, are a row: no other word is between them.
+/// The place of a pointer word.
+#[derive(Clone, Copy, Drop)]
+pub(crate) struct WordPlace {
+    pub(crate) segment: u32,
+    pub(crate) at: u32,
+}
+
+/// The pointers of an object, or the elements of a list of structs, in their order. The last one that
+/// was taken is the step of a path. Pointers have no word between them: they are a row.
 #[derive(Clone, Copy, Default)]
 pub(crate) struct Branch {
-    // These two share four bytes, so that a branch has 32.
+    // These two share four bytes, so that a branch has 20.
     pub(crate) form: Form,
+    pub(crate) segment: u16,
+    /// The first word of those that are left.
+    pub(crate) next: u32,
+    /// How many are left.
+    pub(crate) left: u32,
+    /// How many were taken.
+    pub(crate) taken: u32,
     /// Of each element of a list of structs, in words.
     pub(crate) data_words: u16,
-    pub(crate) segment: u32,
-    /// The word.
-    pub(crate) at: u32,
-    /// How many words of its row come after it.
-    pub(crate) left: u32,
-    /// How many words its row has.
-    pub(crate) row: u32,
-    /// How many elements of a list of structs come after its own.
-    pub(crate) more: u32,
-    /// How many elements the list has.
-    pub(crate) elements: u32,
-    /// The level of what these words lead to.
-    pub(crate) level: u32,
+    /// Of each element of a list of structs.
+    pub(crate) pointers: u16,
 }
 
 impl Branch {
-    /// The root word alone.
+    /// A row of `count` pointers from this word on, of which none is taken.
     #[inline(always)]
-    pub(crate) fn root() -> Branch
-        ensures { result ≡ root_branch }
-    {
-        Branch {
-            form: Form::Root,
-            segment: 0,
-            at: 0,
-            left: 0,
-            row: 1,
-            more: 0,
-            elements: 0,
-            data_words: 0,
-            level: 1,
-        }
-    }
-
-    /// The first pointer word of an object whose row has `row` words, and which has no further rows.
-    #[inline(always)]
-    pub(crate) fn first(form: Form, segment: u32, at: u32, row: u32, level: u32) -> Branch
-        requires { 0 < row }
-        ensures { result ≡ first_branch form segment at row level }
+    pub(crate) fn row(form: Form, segment: u32, at: u32, count: u32) -> Branch
+        requires { segment < 2 ^ 16 }
+        ensures { result ≡ row_branch form segment at count }
     {
         Branch {
             form,
-            segment,
-            at,
-            left: row - 1,
-            row,
-            level,
-            ..Branch::root()
+            segment: segment as u16,
+            next: at,
+            left: count,
+            taken: 0,
+            data_words: 0,
+            pointers: 0,
         }
     }
 
-    /// The same of a list of this many elements, of `data_words` words before the row of each.
+    /// How many words are left, if it is a row.
     #[inline(always)]
-    pub(crate) fn of_elements(self, elements: u32, data_words: u16) -> Branch
-        requires { 0 < elements }
-        ensures { result ≡
-            record self { more = elements - 1; elements = elements; data_words = data_words } }
+    pub(crate) fn words_left(&self) -> u32
+        ensures { result ≡ words_left self.now.form self.now }
     {
-        Branch {
-            more: elements - 1,
-            elements,
-            data_words,
-            ..self
+        match self.form {
+            Form::Structs => 0,
+            _ => self.left,
         }
     }
 
-    /// Goes on to the next pointer word of the object. `false` if there is none.
+    /// Takes the next word of a row.
     #[inline(always)]
-    pub(crate) fn advance(&mut self) -> bool
-        requires { (m : List (List ℕ)) × (depth n : ℕ) × IsMessage m × IsBranch m depth n self.old }
-        ensures next { IsTrue result → (base : List Step) →
-            rest_of base self.old ≡ word_of base self.new ∷ rest_of base self.new }
-        ensures last { IsFalse result → (base : List Step) → rest_of base self.old ≡ [] }
-        ensures kept { IsFalse result → self.new ≡ self.old }
-        ensures branch { IsTrue result → (m : List (List ℕ)) (depth n : ℕ) →
-            IsBranch m depth n self.old → IsBranch m depth n self.new }
+    pub(crate) fn take_word(&mut self) -> WordPlace
+        requires some { 1 ≤ self.old.left }
+        requires place { self.old.next + self.old.left < 2 ^ 32 }
+        requires number { self.old.taken + self.old.left < 2 ^ 32 }
+        ensures place { result ≡ place_of self.old }
+        ensures after { self.new ≡ skipped self.old 1 }
     {
-        if self.left > 0 {
-            self.at += 1;
-            self.left -= 1;
-            return true;
-        }
-        if self.more > 0 {
-            self.at = self.at + 1 + u32::from(self.data_words);
-            self.left = self.row - 1;
-            self.more -= 1;
-            return true;
-        }
-        false
+        let place = WordPlace {
+            segment: u32::from(self.segment),
+            at: self.next,
+        };
+        self.skip(1);
+        place
     }
 
-    /// Goes on over this many words of its row.
+    /// Takes this many words of a row.
     #[inline(always)]
     pub(crate) fn skip(&mut self, words: u32)
-        requires few { words ≤ self.old.left }
-        requires branch { (m : List (List ℕ)) × (depth n : ℕ) × IsMessage m
-            × IsBranch m depth n self.old }
+        requires some { words ≤ self.old.left }
+        requires place { self.old.next + self.old.left < 2 ^ 32 }
+        requires number { self.old.taken + self.old.left < 2 ^ 32 }
         ensures { self.new ≡ skipped self.old words }
     {
-        self.at += words;
+        self.next += words;
         self.left -= words;
+        self.taken += words;
     }
 
-    /// Which word of its row it is, from 0.
+    /// Takes the next element, and gives the row of its pointers.
     #[inline(always)]
-    pub(crate) fn index(&self) -> u32
+    pub(crate) fn take_element(&mut self) -> Branch
+        requires some { 1 ≤ self.old.left }
+        requires place { self.old.next + self.old.data_words + self.old.pointers < 2 ^ 32 }
+        requires number { self.old.taken + self.old.left < 2 ^ 32 }
+        ensures row { result ≡ element_row self.old }
+        ensures after { self.new ≡ past_element self.old }
+    {
+        let (segment, pointers) = (u32::from(self.segment), u32::from(self.pointers));
+        let at = self.next + u32::from(self.data_words);
+        self.next = at + pointers;
+        self.left -= 1;
+        self.taken += 1;
+        Branch::row(Form::Struct, segment, at, pointers)
+    }
+
+    /// The step to the last one that was taken.
+    #[inline(always)]
+    pub(crate) fn step(&self) -> Step
         requires { IsCounted self.now.form self.now }
-        ensures { result ≡ index_of self.now }
+        ensures { result ≡ step_of self.now }
     {
-        self.row - 1 - self.left
-    }
-
-    /// Which element of its list its row belongs to, from 0.
-    #[inline(always)]
-    pub(crate) fn element(&self) -> u32
-        requires { self.now.more < self.now.elements }
-        ensures { result ≡ element_of self.now }
-    {
-        self.elements - 1 - self.more
+        let number = self.taken.saturating_sub(1);
+        match self.form {
+            Form::Struct => Step::Ptr(number as u16),
+            _ => Step::Item(number),
+        }
     }
 }

@@ -9,7 +9,7 @@ ghost use Rattle.cap_trace.specs.Traces.{IsMissing};
 ghost use Rattle.cap_vet.specs.Limits.{depth_of};
 ghost use Rattle.std.specs.Prelude.{◌≡◌, ◌≤◌, IfSome, List, None, Some, ℕ};
 
-use crate::branch::Branch;
+use crate::branch::WordPlace;
 use crate::seeking::{BranchStack, pass, seek};
 use crate::used_words::{UsedWords, uses_one};
 use cap_frame::Segments;
@@ -26,8 +26,8 @@ pub struct EarlierPointer {
     pub pointers: u64,
 }
 
-/// The most branches on the way down to a pointer word.
-const BRANCHES: usize = 258;
+/// The most steps to a pointer word.
+const BRANCHES: usize = 256;
 
 /// The first pointer in preorder that uses a word which the pointer word of this number uses too.
 /// `number` may be the `pointers` of an overlap. A pointer uses its landing pads and the words of its
@@ -60,14 +60,14 @@ fn earlier_within<M: Segments>(message: &M, depth: u32, number: u64) -> Option<E
     requires { depth ≤ 256 }
     ensures { ReportsEarlier (M.segments message.now) depth number result }
 {
-    let last = word_of_number(message, depth, number)?;
-    let used = UsedWords::at(message, last.segment, last.at)?;
+    let named = word_of_number(message, depth, number)?;
+    let used = UsedWords::at(message, named.segment, named.at)?;
     first_using(message, depth, number, &used)
 }
 
 // The pointer word of this number. `None` if it can't be traced.
 #[inline(never)]
-fn word_of_number<M: Segments>(message: &M, depth: u32, number: u64) -> Option<Branch>
+fn word_of_number<M: Segments>(message: &M, depth: u32, number: u64) -> Option<WordPlace>
     requires { depth ≤ 256 }
     ensures some { IfSome result (ComesTo (M.segments message.now) depth number) }
     ensures none { result ≡ None → IsMissing (M.segments message.now) depth number }
@@ -76,12 +76,7 @@ fn word_of_number<M: Segments>(message: &M, depth: u32, number: u64) -> Option<B
         return None;
     }
     let mut branches: BranchStack<BRANCHES> = BranchStack::new();
-    let mut last = Branch::root();
-    branches.push(last);
-    if !seek(message, depth, number, &mut branches, &mut last) {
-        return None;
-    }
-    Some(last)
+    seek(message, depth, number, &mut branches)
 }
 
 // The first pointer that uses one of these words, of those before the word of this number.
@@ -98,8 +93,7 @@ fn first_using<M: Segments>(
         IsTraceable m depth number path → IsFirstUsing m (places_of used.now) path result }
 {
     let mut branches: BranchStack<BRANCHES> = BranchStack::new();
-    let mut here = Branch::root();
-    branches.push(here);
+    let mut here = WordPlace { segment: 0, at: 0 };
     let mut at = 1;
     'words: loop {
         if at == number {

@@ -3,16 +3,14 @@
 ghost use Rattle.cap_ptr.specs.Rows.{FindsRow};
 ghost use Rattle.cap_ptr.specs.Shapes.{FindsTarget};
 ghost use Rattle.cap_spec.specs.Messages.{IsMessage, segment_of};
-ghost use Rattle.cap_trace.specs.Branches.{root_branch};
+ghost use Rattle.cap_trace.specs.Branches.{words_left};
 ghost use Rattle.cap_trace.specs.NearPointers.{IsNearPointer};
 ghost use Rattle.cap_trace.specs.Seeking.{IsLooked, Passes};
-ghost use Rattle.cap_trace.specs.Traces.{GoesBelow, IsMissing, IsSearch};
-ghost use Rattle.cap_trace.specs.declared.below.Below.TheVariants.{Object};
-ghost use Rattle.cap_trace.specs.declared.branch.Branch.{Branch};
-ghost use Rattle.std.specs.Prelude.{◌+◌, ◌++◌, ◌<◌, ◌≡◌, ◌≤◌, ◌⊎◌, [], ◌∷◌, IsFalse, IsTrue, List, None, Some, length, ℕ};
+ghost use Rattle.cap_trace.specs.Traces.{HasCome, HasPassed, IsMissing};
+ghost use Rattle.std.specs.Prelude.{◌+◌, ◌++◌, ◌<◌, ◌≡◌, ◌≤◌, [], ◌∷◌, IfSome, List, None, length, ℕ};
 
 use crate::below::{Below, below_target, look_below};
-use crate::branch::Branch;
+use crate::branch::{Branch, Form, WordPlace};
 use crate::lists::struct_list;
 use crate::near::{NearPointer, one_word_pad};
 use crate::row::branch_of_row;
@@ -20,8 +18,8 @@ use arrayvec::ArrayVec;
 use cap_frame::Segments;
 use cap_ptr::{Row, Target, kind, middle, near_row};
 
-/// The branches on the way down to a pointer word. The first one is at the root, and the last one is
-/// that of the word. 258 are enough for the greatest depth.
+/// The steps on the way down to a pointer word, and the words that come after it. Each step takes a
+/// level, so 256 are enough for the greatest depth.
 pub(crate) type BranchStack<const N: usize> = ArrayVec<Branch, N>;
 
 /// What comes of looking at a pointer word.
@@ -37,44 +35,38 @@ enum Looked {
     Unknown,
 }
 
-// The last of these branches.
+// The level of what the word after these steps leads to.
 #[inline(always)]
-fn last_of<const N: usize>(branches: &BranchStack<N>) -> Branch
-    requires { 0 < length branches.now.items }
-    ensures { (others : List Branch) (last : Branch) → branches.now.items ≡ others ++ last ∷ [] →
-        result ≡ last }
+fn level_after<const N: usize>(branches: &BranchStack<N>) -> u32
+    requires { N ≤ 256 }
+    ensures value { result ≡ length branches.now.items + 1 }
+    ensures few { result ≤ 257 }
 {
-    branches.as_slice()[branches.len() - 1]
+    branches.len() as u32 + 1
 }
 
-/// Looks at the pointer words of a message in preorder, from the root word up to that of this number.
-/// The branches are then those on the way down to it, and `last` is a copy of the last one. `false` if
-/// there is no such word, or if a pointer before it can't be followed or leads past the depth limit.
+/// Looks at the pointer words of a message in preorder, from the root word up to that of this number,
+/// and gives its place. The branches are then the steps to it. `None` if there is no such word, or if
+/// a pointer before it can't be followed or leads past the depth limit.
 #[inline(always)]
 pub(crate) fn seek<M: Segments, const N: usize>(
     message: &M,
     depth: u32,
     number: u64,
     branches: &mut BranchStack<N>,
-    last: &mut Branch,
-) -> bool
-    requires shallow { depth ≤ 256 }
+) -> Option<WordPlace>
+    requires space { (depth ≤ N) × (N ≤ 256) }
     requires counted { 0 < number }
     requires root { 0 < length (segment_of (M.segments message.now) 0) }
-    // There are at most as many branches as words were looked at, and at most one for each level.
-    requires capacity { (number ≤ N) ⊎ (depth + 1 < N) }
-    requires start { (branches.old.items ≡ root_branch ∷ []) × (last.old ≡ root_branch) }
-    ensures found { IsTrue result →
-        IsSearch (M.segments message.now) depth number branches.new.items last.new }
-    ensures missing { IsFalse result → IsMissing (M.segments message.now) depth number }
+    requires start { branches.old.items ≡ [] }
+    ensures found { IfSome result (HasCome (M.segments message.now) depth number branches.new.items) }
+    ensures missing { result ≡ None → IsMissing (M.segments message.now) depth number }
 {
-    // What a look needs of it stays in registers. All else is read from the stack.
-    let mut here = Branch::root();
+    let mut here = WordPlace { segment: 0, at: 0 };
     let mut at = 1;
     'words: loop {
         if at == number {
-            *last = last_of(branches);
-            return true;
+            return Some(here);
         }
         let nulls = pass_nulls(message, number - at, branches, &mut here);
         if nulls > 0 {
@@ -82,7 +74,7 @@ pub(crate) fn seek<M: Segments, const N: usize>(
             continue;
         }
         if !pass(message, depth, branches, &mut here) {
-            return false;
+            return None;
         }
         at += 1;
     }
@@ -95,27 +87,38 @@ fn pass_nulls<M: Segments, const N: usize>(
     message: &M,
     most: u64,
     branches: &mut BranchStack<N>,
-    last: &mut Branch,
+    here: &mut WordPlace,
 ) -> u64
-    requires { (depth n : ℕ)
-        × IsSearch (M.segments message.now) depth n branches.old.items last.old }
+    requires some { 0 < most }
+    requires come { (depth n : ℕ)
+        × HasCome (M.segments message.now) depth n branches.old.items here.old }
     ensures few { result ≤ most }
     ensures passed { let m = M.segments message.now in (depth n : ℕ) →
-        IsSearch m depth n branches.old.items last.old →
-        IsSearch m depth (n + result) branches.new.items last.new }
+        HasCome m depth n branches.old.items here.old →
+        HasCome m depth (n + result) branches.new.items here.new }
 {
-    if message.word(last.segment, last.at) != 0 || last.left == 0 {
+    if message.word(here.segment, here.at) != 0 || branches.len() == 0 {
         return 0;
     }
-    let most = most.min(u64::from(last.left)) as u32;
-    let mut count = 0;
-    'nulls: while count < most && message.word(last.segment, last.at + count) == 0 {
-        count += 1;
-    }
-    last.skip(count);
     let top = branches.len() - 1;
-    branches.as_mut_slice()[top].skip(count);
-    u64::from(count)
+    let row = branches.as_slice()[top];
+    let left = row.words_left();
+    if left == 0 {
+        return 0;
+    }
+    let most = most.min(u64::from(left)) as u32;
+    let segment = u32::from(row.segment);
+    // How many words it goes on past the next one.
+    let mut further = 0;
+    'nulls: while further + 1 < most && message.word(segment, row.next + further) == 0 {
+        further += 1;
+    }
+    *here = WordPlace {
+        segment,
+        at: row.next + further,
+    };
+    branches.as_mut_slice()[top].skip(further + 1);
+    u64::from(further) + 1
 }
 
 /// Goes on to the next pointer word in preorder. `false` if there is no way on. Most words are null, or
@@ -125,88 +128,85 @@ pub(crate) fn pass<M: Segments, const N: usize>(
     message: &M,
     depth: u32,
     branches: &mut BranchStack<N>,
-    last: &mut Branch,
+    here: &mut WordPlace,
 ) -> bool
-    requires shallow { depth ≤ 256 }
-    requires capacity { length branches.old.items < N }
+    requires space { (depth ≤ N) × (N ≤ 256) }
     requires come { (n : ℕ)
-        × IsSearch (M.segments message.now) depth n branches.old.items last.old }
+        × HasCome (M.segments message.now) depth n branches.old.items here.old }
     ensures { let m = M.segments message.now in (n : ℕ) →
-        IsSearch m depth n branches.old.items last.old →
-        Passes m depth n branches.new.items last.new result }
+        HasCome m depth n branches.old.items here.old →
+        Passes m depth n branches.new.items here.new result }
 {
-    match look(message, depth, branches, last) {
+    match look(message, depth, branches, here) {
         Looked::Entered => true,
         Looked::Blocked => false,
-        Looked::Nothing => leave(branches, last),
+        Looked::Nothing => leave(branches, here),
         Looked::Unknown => {
-            // It works on a copy, so that the branch of a loop has no address outside of it.
-            let mut from = last_of(branches);
+            // It works on a copy, so that the place of a loop has no address outside of it.
+            let mut from = *here;
             let passed = pass_followed(message, depth, branches, &mut from);
-            *last = from;
+            *here = from;
             passed
         }
     }
 }
 
-// Looks at the last word, and goes on below it.
+// Looks at the word, and goes on below it.
 #[inline(always)]
 fn look<M: Segments, const N: usize>(
     message: &M,
     depth: u32,
     branches: &mut BranchStack<N>,
-    last: &mut Branch,
+    here: &mut WordPlace,
 ) -> Looked
-    requires shallow { depth ≤ 256 }
-    requires capacity { length branches.old.items < N }
+    requires space { (depth ≤ N) × (N ≤ 256) }
     requires come { (n : ℕ)
-        × IsSearch (M.segments message.now) depth n branches.old.items last.old }
-    ensures { IsLooked (M.segments message.now) depth branches.old.items last.old
-        branches.new.items last.new result }
+        × HasCome (M.segments message.now) depth n branches.old.items here.old }
+    ensures { IsLooked (M.segments message.now) depth branches.old.items here.old
+        branches.new.items here.new result }
 {
-    let word = message.word(last.segment, last.at);
+    let word = message.word(here.segment, here.at);
     if word == 0 {
         return Looked::Nothing;
     }
     let near = NearPointer {
         pads: 0,
-        segment: last.segment,
-        at: last.at,
+        segment: here.segment,
+        at: here.at,
         word,
     };
-    if let Some(row) = near_row(word, last.at, message.len(last.segment)) {
-        return look_row(depth, branches, last, &near, &row);
+    if let Some(row) = near_row(word, here.at, message.len(here.segment)) {
+        return look_row(depth, branches, here, &near, &row);
     }
     if kind(word) != 2 {
-        return look_other(message, depth, branches, last, &near);
+        return look_other(message, depth, branches, here, &near);
     }
-    match one_word_pad(message, last.segment, last.at, word) {
-        Some(pad) => look_near(message, depth, branches, last, &pad),
+    match one_word_pad(message, here.segment, here.at, word) {
+        Some(pad) => look_near(message, depth, branches, here, &pad),
         None => Looked::Unknown,
     }
 }
 
-// The same by a word that takes the place of the last word.
+// The same by a word that takes the place of that word.
 #[inline(always)]
 fn look_near<M: Segments, const N: usize>(
     message: &M,
     depth: u32,
     branches: &mut BranchStack<N>,
-    last: &mut Branch,
+    here: &mut WordPlace,
     near: &NearPointer,
 ) -> Looked
-    requires shallow { depth ≤ 256 }
-    requires capacity { length branches.old.items < N }
+    requires space { (depth ≤ N) × (N ≤ 256) }
     requires come { (n : ℕ)
-        × IsSearch (M.segments message.now) depth n branches.old.items last.old }
+        × HasCome (M.segments message.now) depth n branches.old.items here.old }
     requires near { let m = M.segments message.now in
-        IsNearPointer m last.old.segment last.old.at near.now }
-    ensures { IsLooked (M.segments message.now) depth branches.old.items last.old
-        branches.new.items last.new result }
+        IsNearPointer m here.old.segment here.old.at near.now }
+    ensures { IsLooked (M.segments message.now) depth branches.old.items here.old
+        branches.new.items here.new result }
 {
     match near_row(near.word, near.at, message.len(near.segment)) {
-        Some(row) => look_row(depth, branches, last, near, &row),
-        None => look_other(message, depth, branches, last, near),
+        Some(row) => look_row(depth, branches, here, near, &row),
+        None => look_other(message, depth, branches, here, near),
     }
 }
 
@@ -215,27 +215,26 @@ fn look_near<M: Segments, const N: usize>(
 fn look_row<const N: usize>(
     depth: u32,
     branches: &mut BranchStack<N>,
-    last: &mut Branch,
+    here: &mut WordPlace,
     near: &NearPointer,
     row: &Row,
 ) -> Looked
-    requires found { (m : List (List ℕ)) × IsNearPointer m last.old.segment last.old.at near.now
+    requires space { (depth ≤ N) × (N ≤ 256) }
+    requires found { (m : List (List ℕ)) × (n : ℕ) × IsMessage m
+        × HasCome m depth n branches.old.items here.old
+        × IsNearPointer m here.old.segment here.old.at near.now
         × FindsRow m near.now.segment near.now.at near.now.word row.now }
-    requires level { last.old.level ≤ 257 }
-    requires capacity { length branches.old.items < N }
-    ensures { (m : List (List ℕ)) → IsNearPointer m last.old.segment last.old.at near.now →
+    ensures { (m : List (List ℕ)) → IsNearPointer m here.old.segment here.old.at near.now →
         FindsRow m near.now.segment near.now.at near.now.word row.now →
-        IsLooked m depth branches.old.items last.old branches.new.items last.new result }
+        IsLooked m depth branches.old.items here.old branches.new.items here.new result }
 {
-    if last.level > depth {
+    if level_after(branches) > depth {
         return Looked::Blocked;
     }
     if row.pointer_count == 0 {
         return Looked::Nothing;
     }
-    let branch = branch_of_row(near, row, last.level);
-    branches.push(branch);
-    *last = branch;
+    enter_row(branches, here, branch_of_row(near, row));
     Looked::Entered
 }
 
@@ -245,20 +244,19 @@ fn look_other<M: Segments, const N: usize>(
     message: &M,
     depth: u32,
     branches: &mut BranchStack<N>,
-    last: &mut Branch,
+    here: &mut WordPlace,
     near: &NearPointer,
 ) -> Looked
-    requires shallow { depth ≤ 256 }
-    requires capacity { length branches.old.items < N }
+    requires space { (depth ≤ N) × (N ≤ 256) }
     requires come { (n : ℕ)
-        × IsSearch (M.segments message.now) depth n branches.old.items last.old }
+        × HasCome (M.segments message.now) depth n branches.old.items here.old }
     requires near { let m = M.segments message.now in
-        IsNearPointer m last.old.segment last.old.at near.now }
-    ensures { IsLooked (M.segments message.now) depth branches.old.items last.old
-        branches.new.items last.new result }
+        IsNearPointer m here.old.segment here.old.at near.now }
+    ensures { IsLooked (M.segments message.now) depth branches.old.items here.old
+        branches.new.items here.new result }
 {
     if let Some(list) = struct_list(message, near.pads, near.segment, near.at, near.word) {
-        return look_target(depth, branches, last, &list);
+        return look_target(depth, branches, here, &list);
     }
     if kind(near.word) == 3 && middle(near.word) == 0 {
         return Looked::Nothing;
@@ -271,20 +269,19 @@ fn look_other<M: Segments, const N: usize>(
 fn look_target<const N: usize>(
     depth: u32,
     branches: &mut BranchStack<N>,
-    last: &mut Branch,
+    here: &mut WordPlace,
     target: &Target,
 ) -> Looked
-    requires found { (m : List (List ℕ)) × IsMessage m
-        × FindsTarget m last.old.segment last.old.at target.now }
-    requires level { last.old.level ≤ 257 }
-    requires capacity { length branches.old.items < N }
-    ensures { (m : List (List ℕ)) → FindsTarget m last.old.segment last.old.at target.now →
-        IsLooked m depth branches.old.items last.old branches.new.items last.new result }
+    requires space { (depth ≤ N) × (N ≤ 256) }
+    requires found { (m : List (List ℕ)) × (n : ℕ) × IsMessage m
+        × HasCome m depth n branches.old.items here.old
+        × FindsTarget m here.old.segment here.old.at target.now }
+    ensures { (m : List (List ℕ)) → FindsTarget m here.old.segment here.old.at target.now →
+        IsLooked m depth branches.old.items here.old branches.new.items here.new result }
 {
-    match below_target(target, depth, last) {
+    match below_target(target, depth, level_after(branches)) {
         Below::Object(Some(branch)) => {
-            branches.push(branch);
-            *last = branch;
+            enter(branches, here, branch);
             Looked::Entered
         }
         Below::Object(None) => Looked::Nothing,
@@ -298,45 +295,74 @@ fn pass_followed<M: Segments, const N: usize>(
     message: &M,
     depth: u32,
     branches: &mut BranchStack<N>,
-    last: &mut Branch,
+    here: &mut WordPlace,
 ) -> bool
-    requires shallow { depth ≤ 256 }
-    requires capacity { length branches.old.items < N }
+    requires space { (depth ≤ N) × (N ≤ 256) }
     requires come { (n : ℕ)
-        × IsSearch (M.segments message.now) depth n branches.old.items last.old }
+        × HasCome (M.segments message.now) depth n branches.old.items here.old }
     ensures { let m = M.segments message.now in (n : ℕ) →
-        IsSearch m depth n branches.old.items last.old →
-        Passes m depth n branches.new.items last.new result }
+        HasCome m depth n branches.old.items here.old →
+        Passes m depth n branches.new.items here.new result }
 {
-    match look_below(message, depth, last) {
+    match look_below(message, depth, here, level_after(branches)) {
         Below::Object(Some(branch)) => {
-            branches.push(branch);
-            *last = branch;
+            enter(branches, here, branch);
             true
         }
-        Below::Object(None) => leave(branches, last),
+        Below::Object(None) => leave(branches, here),
         Below::Blocked => false,
     }
 }
 
-// Goes on from a word with no pointer words below it. `false` if no word comes after it.
+// Goes on to the first of the words that a branch has left.
 #[inline(always)]
-fn leave<const N: usize>(branches: &mut BranchStack<N>, last: &mut Branch) -> bool
-    requires { (m : List (List ℕ)) × (depth n : ℕ) × IsMessage m
-        × IsSearch m depth n branches.old.items last.old }
-    ensures { (m : List (List ℕ)) (depth n : ℕ) → IsSearch m depth n branches.old.items last.old →
-        GoesBelow m depth last.old (Object None) →
-        Passes m depth n branches.new.items last.new result }
+fn enter<const N: usize>(branches: &mut BranchStack<N>, here: &mut WordPlace, branch: Branch)
+    requires some { 0 < branch.left }
+    requires passed { (m : List (List ℕ)) × (depth n : ℕ) × IsMessage m × (depth ≤ N)
+        × HasPassed m depth n (branches.old.items ++ branch ∷ []) }
+    ensures { (m : List (List ℕ)) (depth n : ℕ) →
+        HasPassed m depth n (branches.old.items ++ branch ∷ []) →
+        HasCome m depth (n + 1) branches.new.items here.new }
 {
-    'up: loop {
-        let top = branches.len() - 1;
-        if branches.as_mut_slice()[top].advance() {
-            *last = branches.as_slice()[top];
+    match branch.form {
+        Form::Structs => {
+            let mut list = branch;
+            let row = list.take_element();
+            branches.push(list);
+            enter_row(branches, here, row);
+        }
+        _ => enter_row(branches, here, branch),
+    }
+}
+
+// The same of a row.
+#[inline(always)]
+fn enter_row<const N: usize>(branches: &mut BranchStack<N>, here: &mut WordPlace, branch: Branch)
+    requires some { 0 < words_left branch.form branch }
+    requires passed { (m : List (List ℕ)) × (depth n : ℕ) × IsMessage m × (depth ≤ N)
+        × HasPassed m depth n (branches.old.items ++ branch ∷ []) }
+    ensures { (m : List (List ℕ)) (depth n : ℕ) →
+        HasPassed m depth n (branches.old.items ++ branch ∷ []) →
+        HasCome m depth (n + 1) branches.new.items here.new }
+{
+    let mut row = branch;
+    *here = row.take_word();
+    branches.push(row);
+}
+
+// Goes on to the next of the words that are left. `false` if none is.
+#[inline(always)]
+fn leave<const N: usize>(branches: &mut BranchStack<N>, here: &mut WordPlace) -> bool
+    requires { (m : List (List ℕ)) × (depth n : ℕ) × IsMessage m × (depth ≤ N)
+        × HasPassed m depth n branches.old.items }
+    ensures { (m : List (List ℕ)) (depth n : ℕ) → HasPassed m depth n branches.old.items →
+        Passes m depth n branches.new.items here.new result }
+{
+    'up: while let Some(branch) = branches.pop() {
+        if branch.left > 0 {
+            enter(branches, here, branch);
             return true;
         }
-        branches.pop();
-        if branches.is_empty() {
-            return false;
-        }
     }
+    false
 }

@@ -8,17 +8,16 @@ ghost use Rattle.cap_spec.specs.Strict.{IsFirstLax};
 ghost use Rattle.cap_spec.specs.declared.Lax.{Lax};
 ghost use Rattle.cap_spec.specs.declared.Refusal.{Refusal};
 ghost use Rattle.cap_spec.specs.declared.Step.{Step};
-ghost use Rattle.cap_trace.specs.Branches.{AreBranches, IsCounted, path_of, steps_of};
+ghost use Rattle.cap_trace.specs.Branches.{AreBranches, path_of};
 ghost use Rattle.cap_trace.specs.PointerNumbers.{IsTraceable};
 ghost use Rattle.cap_trace.specs.Traces.{GivesPath, IsPut, ReportsPath};
 ghost use Rattle.cap_vet.specs.Limits.{depth_of};
-ghost use Rattle.std.specs.Prelude.{◌+◌, ◌++◌, ◌<◌, ◌≡◌, ◌≤◌, ◌⊎◌, [], ◌∷◌, IfSome, List, drop, length, map, ℕ};
+ghost use Rattle.std.specs.Prelude.{◌<◌, ◌≡◌, ◌≤◌, IfSome, List, length, ℕ};
 
-use crate::branch::{Branch, Form};
+use crate::branch::Branch;
 use crate::seeking::{BranchStack, seek};
 use crate::slot::StepSlot;
 use cap_frame::Segments;
-use cap_spec::Step;
 use cap_vet::Limits;
 
 /// Writes the path to the pointer word of this number in preorder, where the root word is number 1,
@@ -72,18 +71,14 @@ fn traced<M: Segments, S: StepSlot>(
     if number == 0 || message.len(0) == 0 {
         return None;
     }
-    // Each search initializes its branches. There are at most as many as words were looked at, and at
-    // most one for each level and one more. The default depth limit is 64.
-    if number <= 32 {
-        return traced_within::<M, S, 32>(message, depth, number, steps);
+    // A search initializes its branches. The default depth limit is 64.
+    if depth <= 64 {
+        return traced_within::<M, S, 64>(message, depth, number, steps);
     }
-    if number <= 66 || depth <= 64 {
-        return traced_within::<M, S, 66>(message, depth, number, steps);
-    }
-    traced_within::<M, S, 258>(message, depth, number, steps)
+    traced_within::<M, S, 256>(message, depth, number, steps)
 }
 
-// The same of a message with a root word, with capacity for `N` branches.
+// The same of a message with a root word, with capacity for `N` steps.
 #[inline(always)]
 fn traced_within<M: Segments, S: StepSlot, const N: usize>(
     message: &M,
@@ -91,81 +86,33 @@ fn traced_within<M: Segments, S: StepSlot, const N: usize>(
     number: u64,
     steps: &mut [S],
 ) -> Option<usize>
-    requires most { N ≤ 258 }
-    requires shallow { depth ≤ 256 }
+    requires space { (depth ≤ N) × (N ≤ 256) }
     requires counted { 0 < number }
     requires root { 0 < length (segment_of (M.segments message.now) 0) }
-    requires capacity { (number ≤ N) ⊎ (depth + 1 < N) }
-    requires some { 0 < N }
     ensures reports { ReportsPath S.slot (M.segments message.now) depth number steps.old result steps.new }
     ensures few { IfSome result (λ count. count ≤ depth) }
 {
     let mut branches: BranchStack<N> = BranchStack::new();
-    let mut last = Branch::root();
-    branches.push(last);
-    if !seek(message, depth, number, &mut branches, &mut last) {
-        return None;
+    match seek(message, depth, number, &mut branches) {
+        Some(_) => Some(write_path(branches.as_slice(), steps)),
+        None => None,
     }
-    // Each step takes a level.
-    let count = last.level - 1;
-    Some(write_path(branches.as_slice(), count as usize, steps))
 }
 
-// Writes the path over these branches, which has `count` steps, to the start of the buffer, if it fits.
-// Gives `count`. The search doesn't share its registers.
+// Writes the path over these branches to the start of the buffer, if it fits. Gives how many steps it
+// has. The search doesn't share its registers.
 #[inline(never)]
-fn write_path<S: StepSlot>(branches: &[Branch], count: usize, steps: &mut [S]) -> usize
-    requires few { length branches.now ≤ 258 }
-    requires count { count ≡ length (path_of branches.now) }
-    requires branches { (m : List (List ℕ)) × (depth : ℕ) × AreBranches m depth 0 branches.now }
-    ensures count { result ≡ count }
+fn write_path<S: StepSlot>(branches: &[Branch], steps: &mut [S]) -> usize
+    requires { (m : List (List ℕ)) × (depth : ℕ) × AreBranches m depth 1 branches.now }
+    ensures count { result ≡ length (path_of branches.now) }
     ensures steps { IsPut S.slot (path_of branches.now) steps.old steps.new }
 {
+    let count = branches.len();
     if count > steps.len() {
         return count;
     }
-    let mut at = 0;
-    'branches: for branch in branches {
-        at = write_steps(branch, steps, at);
+    'steps: for at in 0..count {
+        steps[at] = S::of(branches[at].step());
     }
-    at
-}
-
-// Writes the steps of a branch at this place. Gives the next place.
-#[inline(always)]
-fn write_steps<S: StepSlot>(branch: &Branch, steps: &mut [S], at: usize) -> usize
-    requires early { at < 998 }
-    requires counted { IsCounted branch.now.form branch.now }
-    requires fits { at + length (steps_of branch.now) ≤ length steps.old }
-    ensures place { result ≡ at + length (steps_of branch.now) }
-    ensures few { result ≤ at + 2 }
-    ensures steps { (path : List Step) (old : List S) → at ≡ length path →
-        steps.old ≡ map S.slot path ++ drop at old →
-        steps.new ≡ map S.slot (path ++ steps_of branch.now) ++ drop result old }
-{
-    let index = branch.index();
-    match branch.form {
-        Form::Root => at,
-        Form::Struct => write_step(steps, at, Step::Ptr(index as u16)),
-        Form::Pointers => write_step(steps, at, Step::Item(index)),
-        Form::Structs => {
-            let next = write_step(steps, at, Step::Item(branch.element()));
-            write_step(steps, next, Step::Ptr(index as u16))
-        }
-    }
-}
-
-// Writes a step at this place. Gives the next place.
-#[inline(always)]
-fn write_step<S: StepSlot>(steps: &mut [S], at: usize, step: Step) -> usize
-    requires early { at < 1000 }
-    requires fits { at < length steps.old }
-    ensures place { result ≡ at + 1 }
-    ensures length { length steps.new ≡ length steps.old }
-    ensures steps { (path : List Step) (old : List S) → at ≡ length path →
-        steps.old ≡ map S.slot path ++ drop at old →
-        steps.new ≡ map S.slot (path ++ step ∷ []) ++ drop result old }
-{
-    steps[at] = S::of(step);
-    at + 1
+    count
 }

@@ -13,6 +13,3 @@ returns-then-number-eq0-clause-none g c = λ e path a.
       | then-number-eq0-via-then-number-eq0 w ↦ omega (arith, w.if-number-eq0.true)
       | then-number-eq0-via-else-number-eq0+then-len-eq0 w ↦ omega (arith, w.len.ensures, w.if-len-eq0.true)
     ]
-
-pub returns-then-not-seek-clause-none : goal.returns-then-not-seek-clause-none
-returns-then-not-seek-clause-none g c = λ e. c.seek.ensures.missing c.if-not-seek.true

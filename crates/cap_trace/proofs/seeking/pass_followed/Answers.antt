@@ -1,18 +1,29 @@
-use Rattle.cap_trace.proofs.Coming.{entered, last_branch, none_past}
+use Rattle.std.proofs.Common.{rules}
+use Rattle.cap_trace.proofs.Coming.{none_past, passed_into, passed_over}
 use Rattle.cap_trace.proofs.seeking.pass_followed.Goals as goal
 
-pub look_below-requires-clause-branch : goal.look_below-requires-clause-branch
-look_below-requires-clause-branch g c = let (n, h) = c.requires.come in (_, last_branch _ c.args.depth n _ _ h)
+pub enter-requires : goal.enter-requires
+enter-requires g c =
+    let (n, h) = c.requires.come in
+    let below = rw (c.in-Object-Some.field-0-is, c.level_after.ensures.value) at c.in-Object-Some.ensures in
+    (search rules, (below.1.1, (_, c.args.depth, n, g.met.M.Segments.is_message c.args.message.now, c.requires.space.0, passed_into _ c.args.depth n _ _ _ h below)))
+
+pub leave-requires : goal.leave-requires
+leave-requires g c =
+    let (n, h) = c.requires.come in
+    let below = rw (c.in-Object-None.field-0-is, c.level_after.ensures.value) at c.in-Object-None.ensures in
+    (search rules, (_, c.args.depth, n, g.met.M.Segments.is_message c.args.message.now, c.requires.space.0, passed_over _ c.args.depth n _ _ h below))
 
 pub returns-in-Object-Some : goal.returns-in-Object-Some
 returns-in-Object-Some g c = λ n h.
-    entered _ c.args.depth n c.args.branches.now.items _ c.args.last.now _ c.push.ensures.items h
-    (rw c.in-Object-Some.field-0-is at c.in-Object-Some.ensures)
+    let below = rw (c.in-Object-Some.field-0-is, c.level_after.ensures.value) at c.in-Object-Some.ensures in
+    c.enter.ensures _ c.args.depth n (passed_into _ c.args.depth n _ _ _ h below)
 
 pub returns-in-Object-None : goal.returns-in-Object-None
 returns-in-Object-None g c = λ n h.
-    c.leave.ensures _ c.args.depth n h (rw c.in-Object-None.field-0-is at c.in-Object-None.ensures)
+    let below = rw (c.in-Object-None.field-0-is, c.level_after.ensures.value) at c.in-Object-None.ensures in
+    c.leave.ensures _ c.args.depth n (passed_over _ c.args.depth n _ _ h below)
 
 pub returns-in-Blocked : goal.returns-in-Blocked
 returns-in-Blocked g c = λ n h more less path a.
-    none_past _ c.args.depth n more h.others c.args.last.now path h.come c.in-Blocked.ensures less a
+    none_past _ c.args.depth n more _ _ path h (rw c.level_after.ensures.value at c.in-Blocked.ensures) less a

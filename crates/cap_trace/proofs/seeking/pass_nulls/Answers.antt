@@ -1,59 +1,84 @@
-use Rattle.std.proofs.Common.{arith, length, ◌+◌, ◌-◌, ◌<◌, ◌≡◌}
-use Rattle.cap_spec.proofs.Frames.Messages.{short_segment}
-use Rattle.cap_trace.specs.TraceNames.{skipped}
-use Rattle.cap_trace.proofs.Branches.{last_read, length_parts}
-use Rattle.cap_trace.proofs.Coming.{last_branch}
-use Rattle.cap_trace.proofs.Nulls.{came_in_row, null_below}
+use Rattle.std.proofs.Common.{arith, get_or, length, take, ◌+◌, ◌-◌, ◌<◌, ◌≡◌}
+use Rattle.cap_trace.specs.TraceNames.{row_branch, words_left, Struct}
+use Rattle.cap_trace.proofs.Branches.{last_apart, last_written}
+use Rattle.cap_trace.proofs.Coming.{came_first, came_further, passed_over, row_here}
+use Rattle.cap_trace.proofs.Nulls.{null_below}
 use Rattle.cap_trace.proofs.seeking.pass_nulls.Goals as goal
 
-pub word-requires-clause-exists : goal.word-requires-clause-exists
-word-requires-clause-exists g c = let (depth, n, h) = c.requires in (last_branch _ depth n _ _ h).exists
-
-pub word-requires-clause-inside : goal.word-requires-clause-inside
-word-requires-clause-inside g c =
-    let (depth, n, h) = c.requires in let b = last_branch _ depth n _ _ h in omega (arith, b.inside)
-
-pub overflow_add-last : goal.overflow_add-last
-overflow_add-last g c =
-    let m = g.M.Segments.segments c.args.message.now in
-    let (depth, n, h) = c.requires in
-    let b = last_branch m depth n _ _ h in
-    omega (arith, b.inside, short_segment m c.args.last.now.segment (g.met.M.Segments.is_message c.args.message.now) b.exists, c.nulls-test.true, c.min-most.ensures, c.from.ensures)
-
-pub word-requires-in-nulls-clause-exists : goal.word-requires-in-nulls-clause-exists
-word-requires-in-nulls-clause-exists g c = let (depth, n, h) = c.requires in (last_branch _ depth n _ _ h).exists
-
-pub word-requires-in-nulls-clause-inside : goal.word-requires-in-nulls-clause-inside
-word-requires-in-nulls-clause-inside g c =
-    let (depth, n, h) = c.requires in
-    let b = last_branch _ depth n _ _ h in omega (arith, b.inside, c.nulls-test.true, c.min-most.ensures, c.from.ensures)
-
-pub nulls-preserved : goal.nulls-preserved
-nulls-preserved g c = record {
-  few = omega arith;
-  passed = λ depth n others h.
-      let m = g.M.Segments.segments c.args.message.now in
-      let last = c.args.last.now in
-      let some : c.nulls.count < last.left = omega (arith, c.nulls-test.true, c.min-most.ensures, c.from.ensures) in
-      came_in_row m depth n c.nulls.count others last some
-      (null_below m depth (skipped last c.nulls.count) (rw c.if-word-eq0.true at c.word-in-nulls.ensures)) (c.nulls.invariant.passed depth n others h);
-}
-
-pub skip-requires-clause-branch : goal.skip-requires-clause-branch
-skip-requires-clause-branch g c =
-    let (depth, n, h) = c.requires in
-    let m = g.M.Segments.segments c.args.message.now in
-    (m, depth, 0 + length h.others, g.met.M.Segments.is_message c.args.message.now, last_branch m depth n _ _ h)
-
-pub skip-requires-2-clause-branch : goal.skip-requires-2-clause-branch
-skip-requires-2-clause-branch g c =
-    let (depth, n, h) = c.requires in
+pub nulls-init : goal.nulls-init
+nulls-init g c =
     let m = g.M.Segments.segments c.args.message.now in
     let items = c.args.branches.now.items in
-    let top : c.len-top.result - 1 + 1 ≡ length items = omega (arith, c.len-top.ensures, length_parts items h.others c.args.last.now h.parts) in (
-      m,
-      depth,
-      0 + length h.others,
-      g.met.M.Segments.is_message c.args.message.now,
-      rw (last_read items _ h.others c.args.last.now _ _ c.as_mut_slice.ensures.value h.parts top) (last_branch m depth n _ _ h),
-    )
+    let i = c.len-top.result - 1 in
+    let top : i + 1 ≡ length items = omega (arith, c.len-top.ensures.value, c.len.ensures.value, c.if-len-eq0.false) in
+    record {
+      few = omega (arith, c.min-most.ensures, c.from.ensures, c.requires.some, c.if-left-eq0.false);
+      passed = λ depth n h.
+          let over = passed_over m depth n items c.args.here.now h (null_below m depth _ _ _ (rw c.if-word-ne0.false at c.word.ensures)) in
+          rw c.from-segment.ensures
+          (came_first m depth n (take i items) (get_or c.as_slice.result.now i (row_branch Struct 0 0 0))
+          (omega (arith, c.words_left-left.ensures, c.if-left-eq0.false))
+          (rw (last_apart items c.as_slice.result.now i (row_branch Struct 0 0 0) c.as_slice.ensures.value top) at over));
+    }
+
+pub overflow_add-row : goal.overflow_add-row
+overflow_add-row g c =
+    let (depth, n, h) = c.requires.come in
+    let i = c.len-top.result - 1 in
+    let top : i + 1 ≡ length c.args.branches.now.items = omega (arith, c.len-top.ensures.value, c.len.ensures.value, c.if-len-eq0.false) in
+    let some : 0 < words_left (get_or c.as_slice.result.now i (row_branch Struct 0 0 0)).form (get_or c.as_slice.result.now i (row_branch Struct 0 0 0)) = omega (arith, c.words_left-left.ensures, c.if-left-eq0.false) in
+    let fits = row_here _ depth n _ _ _ i (row_branch Struct 0 0 0) (g.met.M.Segments.is_message c.args.message.now) h c.as_slice.ensures.value top some in
+    omega (arith, fits.0, fits.2, c.nulls.invariant.few, c.words_left-left.ensures, c.from.ensures, c.min-most.ensures)
+
+pub word-requires-in-nulls-clause-exists : goal.word-requires-in-nulls-clause-exists
+word-requires-in-nulls-clause-exists g c = let (depth, n, h) = c.requires.come in (c.nulls.invariant.passed depth n h).exists
+
+pub word-requires-in-nulls-clause-inside : goal.word-requires-in-nulls-clause-inside
+word-requires-in-nulls-clause-inside g c = let (depth, n, h) = c.requires.come in (c.nulls.invariant.passed depth n h).inside
+
+pub nulls-preserved : goal.nulls-preserved
+nulls-preserved g c =
+    let m = g.M.Segments.segments c.args.message.now in
+    record {
+      few = omega (arith, c.nulls-test.true);
+      passed = λ depth n h.
+          let over = passed_over m depth _ _ _ (c.nulls.invariant.passed depth n h) (null_below m depth _ _ _ (rw c.if-word-eq0.true at c.word-in-nulls.ensures)) in
+          rw c.from-segment.ensures
+          (came_further m depth n _ _ (c.nulls.further + 1)
+          (omega (arith, c.words_left-left.ensures, c.from.ensures, c.min-most.ensures, c.nulls-test.true)) over);
+    }
+
+pub overflow_add-here : goal.overflow_add-here
+overflow_add-here g c =
+    let (depth, n, h) = c.requires.come in
+    let i = c.len-top.result - 1 in
+    let top : i + 1 ≡ length c.args.branches.now.items = omega (arith, c.len-top.ensures.value, c.len.ensures.value, c.if-len-eq0.false) in
+    let some : 0 < words_left (get_or c.as_slice.result.now i (row_branch Struct 0 0 0)).form (get_or c.as_slice.result.now i (row_branch Struct 0 0 0)) = omega (arith, c.words_left-left.ensures, c.if-left-eq0.false) in
+    let fits = row_here _ depth n _ _ _ i (row_branch Struct 0 0 0) (g.met.M.Segments.is_message c.args.message.now) h c.as_slice.ensures.value top some in
+    omega (arith, fits.0, fits.2, c.nulls.invariant.few, c.words_left-left.ensures, c.from.ensures, c.min-most.ensures)
+
+pub skip-requires-clause-place : goal.skip-requires-clause-place
+skip-requires-clause-place g c =
+    let (depth, n, h) = c.requires.come in
+    let i = c.len-top.result - 1 in
+    let top : i + 1 ≡ length c.args.branches.now.items = omega (arith, c.len-top.ensures.value, c.len.ensures.value, c.if-len-eq0.false) in
+    let some : 0 < words_left (get_or c.as_slice.result.now i (row_branch Struct 0 0 0)).form (get_or c.as_slice.result.now i (row_branch Struct 0 0 0)) = omega (arith, c.words_left-left.ensures, c.if-left-eq0.false) in
+    let fits = row_here _ depth n _ _ _ i (row_branch Struct 0 0 0) (g.met.M.Segments.is_message c.args.message.now) h c.as_slice.ensures.value top some in
+    rw (c.as_mut_slice.ensures.value) (rw c.as_slice.ensures.value at fits.0)
+
+pub skip-requires-clause-number : goal.skip-requires-clause-number
+skip-requires-clause-number g c =
+    let (depth, n, h) = c.requires.come in
+    let i = c.len-top.result - 1 in
+    let top : i + 1 ≡ length c.args.branches.now.items = omega (arith, c.len-top.ensures.value, c.len.ensures.value, c.if-len-eq0.false) in
+    let some : 0 < words_left (get_or c.as_slice.result.now i (row_branch Struct 0 0 0)).form (get_or c.as_slice.result.now i (row_branch Struct 0 0 0)) = omega (arith, c.words_left-left.ensures, c.if-left-eq0.false) in
+    let fits = row_here _ depth n _ _ _ i (row_branch Struct 0 0 0) (g.met.M.Segments.is_message c.args.message.now) h c.as_slice.ensures.value top some in
+    rw (c.as_mut_slice.ensures.value) (rw c.as_slice.ensures.value at fits.1)
+
+pub returns-clause-passed : goal.returns-clause-passed
+returns-clause-passed g c = λ depth n h.
+    let items = c.args.branches.now.items in
+    let i = c.len-top.result - 1 in
+    let top : i + 1 ≡ length items = omega (arith, c.len-top.ensures.value, c.len.ensures.value, c.if-len-eq0.false) in
+    rw (last_written items c.as_mut_slice.result.now i (row_branch Struct 0 0 0) c.skip.new.self c.as_mut_slice.ensures.value top, c.skip.ensures, c.as_mut_slice.ensures.value, c.as_slice.ensures.value, c.from-2.ensures)
+    (rw c.as_slice.ensures.value at c.nulls.invariant.passed depth n h)

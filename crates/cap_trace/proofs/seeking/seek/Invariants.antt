@@ -1,11 +1,11 @@
 use Rattle.std.proofs.Common.{◌-◌, ◌≤◌}
-use Rattle.cap_trace.specs.Traces.{IsSearch}
+use Rattle.cap_trace.specs.Traces.{HasCome}
 use Rattle.cap_trace.proofs.seeking.seek.Given as goal
 
 abbrev pub invariant-words : goal.invariant-words
 invariant-words g l = record {
   before : l.at ≤ l.number;
-  come : IsSearch (g.M.Segments.segments l.message) l.depth l.at l.branches.items l.here;
+  come : HasCome (g.M.Segments.segments l.message) l.depth l.at l.branches.items l.here;
 }
 
 abbrev pub decreases-words : goal.decreases-words
