@@ -2,11 +2,12 @@
 use Rattle.cap_spec.proofs.ProofNames.{List, [], ap, append-nil, append_assoc, arith, get_or, length, length-append, refl, subst, suc}
 use Rattle.cap_spec.proofs.ProofNames.{sym, zero, ℕ, ◌++◌, ◌+◌, ◌-◌, ◌<◌, ◌∙◌, ◌∷◌, ◌≡◌, ◌≤◌, ◌^◌, IsMessage, segment_of}
 use Rattle.cap_spec.proofs.Lemmas.{short_segment}
-use Rattle.std.proofs.Common.{set, take, take_all}
-use Rattle.std.proofs.lemmas.List.{length-set, length-take, set_at, take_at, take_more}
+use Rattle.std.proofs.Math.Nat.{mul-le-mul_right}
+use Rattle.std.proofs.Common.{◌*◌, set, take, take_all}
+use Rattle.std.proofs.lemmas.List.{get_or_push, length-set, set_at, take_at, take_more}
 use Rattle.std.specs.List.{refill}
 use Rattle.cap_vet.specs.Trails.{Ahead}
-use Rattle.cap_trace.specs.Branches.{element_row, past_element}
+use Rattle.cap_trace.specs.Branches.{IsCounted, element_row, words_in}
 use Rattle.cap_trace.specs.TraceNames.{Step, AreBranches, IsBranch, path_of, place_of, rest_from, rest_of, skipped, step_of}
 use Rattle.cap_trace.specs.TraceNames.{words_left, Branch, Form, Pointers, Struct, Structs, word_ahead}
 
@@ -65,25 +66,25 @@ few_branches m depth fs h = omega (arith, few_from m depth 1 fs h (omega arith))
 -- a branch of these numbers
 abbrev pub branch : Form → ℕ → ℕ → ℕ → ℕ → ℕ → ℕ → Branch
 branch form s b n t d p =
-    record { form = form; segment = s; next = b; left = n; taken = t; data_words = d; pointers = p }
+    record { form = form; segment = s; start = b; count = n; taken = t; data_words = d; pointers = p }
 
 -- The words of a row are the next one and then the others.
 row_words : (form : Form) (s b n t d p : ℕ) → 0 < words_left form (branch form s b n t d p) → (base : List Step) (level : ℕ)
     → rest_of base level (branch form s b n t d p)
     ≡ record {
-      path = base ++ step_of (branch form s (b + 1) (n - 1) (t + 1) d p) ∷ [];
+      path = base ++ step_of (branch form s b n (t + 1) d p) ∷ [];
       segment = s;
-      word = b;
+      word = b + t;
       level = level + 1;
-    } ∷ rest_of base level (branch form s (b + 1) (n - 1) (t + 1) d p)
-row_words Struct s b zero t d p some base level = absurd (omega (arith, some))
-row_words Struct s b (suc n) t d p some base level =
-    let one : suc n - 1 ≡ n = omega arith in
-    let here : t + 1 - 1 ≡ t = omega arith in rw (one, here) refl
-row_words Pointers s b zero t d p some base level = absurd (omega (arith, some))
-row_words Pointers s b (suc n) t d p some base level =
-    let one : suc n - 1 ≡ n = omega arith in
-    let here : t + 1 - 1 ≡ t = omega arith in rw (one, here) refl
+    } ∷ rest_of base level (branch form s b n (t + 1) d p)
+row_words Struct s b n t d p some base level =
+    let more : n - t ≡ suc (n - (t + 1)) = omega (arith, some) in
+    let here : t + 1 - 1 ≡ t = omega arith in
+    let next : b + (t + 1) ≡ b + t + 1 = omega arith in rw (more, here, next) refl
+row_words Pointers s b n t d p some base level =
+    let more : n - t ≡ suc (n - (t + 1)) = omega (arith, some) in
+    let here : t + 1 - 1 ≡ t = omega arith in
+    let next : b + (t + 1) ≡ b + t + 1 = omega arith in rw (more, here, next) refl
 row_words Structs s b n t d p some base level = absurd (omega (arith, some))
 
 -- So it is of those of the last branch.
@@ -94,123 +95,111 @@ word_taken fs f some =
     let long : length (fs ++ skipped f 1 ∷ []) ≡ length fs + 1 = length-append fs (skipped f 1 ∷ []) in
     rest_append [] 1 fs (f ∷ [])
     ∙ ap (λ (u : List Ahead). u ++ rest_from [] 1 fs)
-    (row_words f.form f.segment f.next f.left f.taken f.data_words f.pointers some (path_of fs) (length fs + 1))
+    (row_words f.form f.segment f.start f.count f.taken f.data_words f.pointers some (path_of fs) (length fs + 1))
     ∙ rw (rest_append [] 1 fs (skipped f 1 ∷ []), path_with fs (skipped f 1), long) refl
 
 -- The words of elements are those of the next one and then of the others.
-element_words : (s b n t d p : ℕ) → 0 < n → (base : List Step) (level : ℕ)
+element_words : (s b n t d p : ℕ) → t < n → (base : List Step) (level : ℕ)
     → rest_of base level (branch Structs s b n t d p)
-    ≡ rest_from base level (past_element (branch Structs s b n t d p) ∷ element_row (branch Structs s b n t d p) ∷ [])
-element_words s b zero t d p some base level = absurd (omega (arith, some))
-element_words s b (suc n) t d p some base level =
-    let one : suc n - 1 ≡ n = omega arith in
-    let here : t + 1 - 1 ≡ t = omega arith in rw (one, here) refl
+    ≡ rest_from base level (branch Structs s b n (t + 1) d p ∷ element_row (branch Structs s b n t d p) ∷ [])
+element_words s b n t d p some base level =
+    let more : n - t ≡ suc (n - (t + 1)) = omega (arith, some) in
+    let here : t + 1 - 1 ≡ t = omega arith in
+    let next : b + (t + 1) * (d + p) ≡ b + t * (d + p) + d + p = omega arith in
+    let start : b + t * (d + p) + d + 0 ≡ b + t * (d + p) + d = omega arith in
+    let all : p - 0 ≡ p = omega arith in rw (more, here, next, start, all) refl
 
-pub element_taken : (fs : List Branch) (f : Branch) → f.form ≡ Structs → 0 < f.left
-    → rest_from [] 1 (fs ++ f ∷ []) ≡ rest_from [] 1 ((fs ++ past_element f ∷ []) ++ element_row f ∷ [])
+pub element_taken : (fs : List Branch) (f : Branch) → f.form ≡ Structs → f.taken < f.count
+    → rest_from [] 1 (fs ++ f ∷ []) ≡ rest_from [] 1 ((fs ++ skipped f 1 ∷ []) ++ element_row f ∷ [])
 element_taken fs f is some =
     rest_append [] 1 fs (f ∷ [])
     ∙ ap (λ (u : List Ahead). u ++ rest_from [] 1 fs) (rw is
-    (element_words f.segment f.next f.left f.taken f.data_words f.pointers some (path_of fs) (length fs + 1)))
-    ∙ sym (rest_append [] 1 fs (past_element f ∷ element_row f ∷ []))
-    ∙ ap (λ (u : List Branch). rest_from [] 1 u) (sym (append_assoc fs (past_element f ∷ []) (element_row f ∷ [])))
+    (element_words f.segment f.start f.count f.taken f.data_words f.pointers some (path_of fs) (length fs + 1)))
+    ∙ sym (rest_append [] 1 fs (skipped f 1 ∷ element_row f ∷ []))
+    ∙ ap (λ (u : List Branch). rest_from [] 1 u) (sym (append_assoc fs (skipped f 1 ∷ []) (element_row f ∷ [])))
 
 -- No words are those of a branch with nothing left.
-no_words : (form : Form) (s b n t d p : ℕ) → n ≡ 0 → (base : List Step) (level : ℕ)
+no_words : (form : Form) (s b n t d p : ℕ) → n ≤ t → (base : List Step) (level : ℕ)
     → ◌≡◌ {A = List Ahead} (rest_of base level (branch form s b n t d p)) []
-no_words Struct s b n t d p none base level = rw none refl
-no_words Pointers s b n t d p none base level = rw none refl
-no_words Structs s b n t d p none base level = rw none refl
+no_words Struct s b n t d p none base level = let e : n - t ≡ 0 = omega (arith, none) in rw e refl
+no_words Pointers s b n t d p none base level = let e : n - t ≡ 0 = omega (arith, none) in rw e refl
+no_words Structs s b n t d p none base level = let e : n - t ≡ 0 = omega (arith, none) in rw e refl
 
-pub nothing_left : (fs : List Branch) (f : Branch) → f.left ≡ 0 → rest_from [] 1 (fs ++ f ∷ []) ≡ rest_from [] 1 fs
+pub nothing_left : (fs : List Branch) (f : Branch) → f.count ≤ f.taken → rest_from [] 1 (fs ++ f ∷ []) ≡ rest_from [] 1 fs
 nothing_left fs f none =
     rest_append [] 1 fs (f ∷ [])
     ∙ ap (λ (u : List Ahead). u ++ rest_from [] 1 fs)
-    (no_words f.form f.segment f.next f.left f.taken f.data_words f.pointers none (path_of fs) (length fs + 1))
+    (no_words f.form f.segment f.start f.count f.taken f.data_words f.pointers none (path_of fs) (length fs + 1))
 
--- The row after its next word is one.
-row_after : (m : List (List ℕ)) (depth level : ℕ) (form : Form) (s b n t d p : ℕ) → 0 < words_left form (branch form s b n t d p)
-    → IsBranch m depth level (branch form s b n t d p)
-    → IsBranch m depth level (branch form s (b + 1) (n - 1) (t + 1) d p) × (b < length (segment_of m s))
-row_after m depth level Struct s b n t d p some h = (
-  record {
-    exists = h.exists;
-    inside = omega (arith, h.inside, some);
-    counted = omega (arith, h.counted, some);
-    shallow = h.shallow;
-  },
-  omega (arith, h.inside, some),
-)
-row_after m depth level Pointers s b n t d p some h = (
-  record {
-    exists = h.exists;
-    inside = omega (arith, h.inside, some);
-    counted = omega (arith, h.counted, some);
-    shallow = h.shallow;
-  },
-  omega (arith, h.inside, some),
-)
-row_after m depth level Structs s b n t d p some h = absurd (omega (arith, some))
+-- It stays one after more are taken.
+counted_after : (form : Form) (f : Branch) → f.taken < f.count → IsCounted form f → IsCounted form (skipped f 1)
+counted_after Struct f some h = (omega (arith, some), h.1)
+counted_after Pointers f some h = omega (arith, some)
+counted_after Structs f some h = (omega (arith, some), h.1, h.2)
 
-pub after_word : (m : List (List ℕ)) (depth level : ℕ) (f : Branch) → 0 < words_left f.form f → IsBranch m depth level f
-    → IsBranch m depth level (skipped f 1) × (f.next < length (segment_of m f.segment))
-after_word m depth level f some h =
-    row_after m depth level f.form f.segment f.next f.left f.taken f.data_words f.pointers some h
+words_in_after : (form : Form) (f : Branch) → words_in form (skipped f 1) ≡ words_in form f
+words_in_after Struct f = refl
+words_in_after Pointers f = refl
+words_in_after Structs f = refl
 
--- So are the elements after the next one, and the row of that one.
-elements_after : (m : List (List ℕ)) (depth level s b n t d p : ℕ) → 0 < n → IsBranch m depth level (branch Structs s b n t d p)
-    → AreBranches m depth level (past_element (branch Structs s b n t d p) ∷ element_row (branch Structs s b n t d p) ∷ [])
-elements_after m depth level s b zero t d p some h = absurd (omega (arith, some))
-elements_after m depth level s b (suc n) t d p some h =
-    let one : suc n - 1 ≡ n = omega arith in (
+pub branch_after : (m : List (List ℕ)) (depth level : ℕ) (f : Branch) → f.taken < f.count → IsBranch m depth level f
+    → IsBranch m depth level (skipped f 1)
+branch_after m depth level f some h = record {
+  exists = h.exists;
+  inside = rw (words_in_after f.form f) h.inside;
+  counted = counted_after f.form f some h.counted;
+  shallow = h.shallow;
+}
+
+-- The words of a row with some left lie inside their segment.
+pub row_fits : (m : List (List ℕ)) (depth level : ℕ) (f : Branch) → 0 < words_left f.form f → IsBranch m depth level f
+    → (f.start + f.count ≤ length (segment_of m f.segment)) × (words_left f.form f ≡ f.count - f.taken)
+row_fits m depth level f some h = by_form f.form some h.inside
+  where
+    by_form : (form : Form) → 0 < words_left form f → f.start + words_in form f ≤ length (segment_of m f.segment)
+        → (f.start + f.count ≤ length (segment_of m f.segment)) × (words_left form f ≡ f.count - f.taken)
+    by_form Struct some h = (h, refl)
+    by_form Pointers some h = (h, refl)
+    by_form Structs some h = absurd (omega (arith, some))
+
+pub taken_within : (form : Form) (f : Branch) → IsCounted form f → f.taken ≤ f.count
+taken_within Struct f h = h.0
+taken_within Pointers f h = h
+taken_within Structs f h = h.0
+
+-- What isn't a list of structs is a row.
+pub is_row : (form : Form) (f : Branch) → (form ≡ Structs → ⊥) → f.taken < f.count → 0 < words_left form f
+is_row Struct f other some = omega (arith, some)
+is_row Pointers f other some = omega (arith, some)
+is_row Structs f other some = absurd (other refl)
+
+-- So do those of the next element, and its pointers are a branch.
+one_of_many : (t n x : ℕ) → t < n → t * x + x ≤ n * x
+one_of_many t n x less = let k : (t + 1) * x ≤ n * x = mul-le-mul_right x (omega (arith, less)) in omega (arith, k)
+
+pub element_branch : (m : List (List ℕ)) (depth level : ℕ) (f : Branch) → f.form ≡ Structs → f.taken < f.count
+    → IsBranch m depth level f
+    → IsBranch m depth (level + 1) (element_row f) × (0 < f.pointers)
+element_branch m depth level f is some h =
+    let inside : f.start + f.count * (f.data_words + f.pointers) ≤ length (segment_of m f.segment) = rw is at h.inside in
+    let counted : IsCounted Structs f = rw is at h.counted in
+    let deep : level + 1 ≤ depth = rw is at h.shallow in (
       record {
         exists = h.exists;
-        inside = rw one (omega (arith, h.inside));
-        counted = (omega (arith, h.counted.0), h.counted.1, h.counted.2);
-        shallow = h.shallow;
+        inside = omega (arith, inside, one_of_many f.taken f.count (f.data_words + f.pointers) some);
+        counted = (omega arith, counted.2);
+        shallow = omega (arith, deep);
       },
-      (
-        record {
-          exists = h.exists;
-          inside = omega (arith, h.inside);
-          counted = omega (arith, h.counted.2);
-          shallow = omega (arith, h.shallow);
-        },
-        tt,
-      ),
+      counted.1,
     )
 
-pub after_element : (m : List (List ℕ)) (depth level : ℕ) (f : Branch) → f.form ≡ Structs → 0 < f.left → IsBranch m depth level f
-    → AreBranches m depth level (past_element f ∷ element_row f ∷ [])
-after_element m depth level f is some h =
-    rw is (elements_after m depth level f.segment f.next f.left f.taken f.data_words f.pointers some (rw is at h))
+pub none_left : (branches : List Branch) → length branches ≡ 0 → branches ≡ []
+none_left [] none = refl
+none_left (b ∷ branches) none = absurd (omega (arith, none))
 
--- The numbers of a row have 32 bits,
-row_numbers : (m : List (List ℕ)) (depth level : ℕ) (form : Form) (s b n t d p : ℕ) → IsMessage m
-    → 0 < words_left form (branch form s b n t d p) → IsBranch m depth level (branch form s b n t d p)
-    → (b + n < 2 ^ 32) × (t + n < 2 ^ 32) × (words_left form (branch form s b n t d p) ≡ n)
-row_numbers m depth level Struct s b n t d p message some h =
-    (omega (arith, h.inside, short_segment m s message h.exists), omega (arith, h.counted), refl)
-row_numbers m depth level Pointers s b n t d p message some h =
-    (omega (arith, h.inside, short_segment m s message h.exists), h.counted, refl)
-row_numbers m depth level Structs s b n t d p message some h = absurd (omega (arith, some))
-
-pub row_fits : (m : List (List ℕ)) (depth level : ℕ) (f : Branch) → IsMessage m → 0 < words_left f.form f → IsBranch m depth level f
-    → (f.next + f.left < 2 ^ 32) × (f.taken + f.left < 2 ^ 32) × (words_left f.form f ≡ f.left)
-row_fits m depth level f message some h =
-    row_numbers m depth level f.form f.segment f.next f.left f.taken f.data_words f.pointers message some h
-
--- and so have those of elements.
-element_numbers : (m : List (List ℕ)) (depth level s b n t d p : ℕ) → IsMessage m → 0 < n
-    → IsBranch m depth level (branch Structs s b n t d p) → (b + d + p < 2 ^ 32) × (t + n < 2 ^ 32) × (0 < p)
-element_numbers m depth level s b zero t d p message some h = absurd (omega (arith, some))
-element_numbers m depth level s b (suc n) t d p message some h =
-    (omega (arith, h.inside, short_segment m s message h.exists), h.counted.0, h.counted.1)
-
-pub element_fits : (m : List (List ℕ)) (depth level : ℕ) (f : Branch) → IsMessage m → f.form ≡ Structs → 0 < f.left
-    → IsBranch m depth level f → (f.next + f.data_words + f.pointers < 2 ^ 32) × (f.taken + f.left < 2 ^ 32) × (0 < f.pointers)
-element_fits m depth level f message is some h =
-    element_numbers m depth level f.segment f.next f.left f.taken f.data_words f.pointers message some (rw is at h)
+pub length_parts : (branches others : List Branch) (last : Branch) → branches ≡ others ++ last ∷ []
+    → length branches ≡ length others + 1
+length_parts branches others last parts = ap (λ (u : List Branch). length u) parts ∙ length-append others (last ∷ [])
 
 -- Branches are those before the last, and the last.
 pub last_apart : (branches now : List Branch) (i : ℕ) (d : Branch) → now ≡ branches → i + 1 ≡ length branches
@@ -219,11 +208,18 @@ last_apart branches now i d same long =
     sym (take_all (i + 1) branches (omega (arith, long))) ∙ take_more branches i d (omega (arith, long))
     ∙ ap (λ (u : List Branch). take i branches ++ get_or u i d ∷ []) (sym same)
 
--- The last one is written.
-pub last_written : (branches now : List Branch) (i : ℕ) (d b : Branch) → now ≡ branches → i + 1 ≡ length branches
-    → refill (length branches) branches (set now i b) ≡ take i branches ++ b ∷ []
-last_written branches now i d b same long =
+-- The last one is read,
+pub last_read : (branches now others : List Branch) (last d : Branch) (i : ℕ) → now ≡ branches → branches ≡ others ++ last ∷ []
+    → i + 1 ≡ length branches → get_or now i d ≡ last
+last_read branches now others last d i same parts long =
+    ap (λ (u : List Branch). get_or u i d) (same ∙ parts)
+    ∙ get_or_push others last d i (omega (arith, long, length_parts branches others last parts))
+
+-- or written.
+pub last_written : (branches now others : List Branch) (last b : Branch) (i : ℕ) → now ≡ branches → branches ≡ others ++ last ∷ []
+    → i + 1 ≡ length branches → refill (length branches) branches (set now i b) ≡ others ++ b ∷ []
+last_written branches now others last b i same parts long =
     ap (λ (u : List Branch). refill (length branches) branches (set u i b)) same
     ∙ take_at (set branches i b) _ (length branches) (length-set branches i b)
-    ∙ ap (λ (u : List Branch). set u i b) (last_apart branches branches i d refl long)
-    ∙ set_at (take i branches) (get_or branches i d) [] b i (omega (arith, long, length-take i branches))
+    ∙ ap (λ (u : List Branch). set u i b) parts
+    ∙ set_at others last [] b i (omega (arith, long, length_parts branches others last parts))

@@ -1,5 +1,5 @@
 -- A search comes to the pointer words of a message one after the other.
-use Rattle.cap_spec.proofs.Lemmas.{HasWord-inside, Before-asymmetric, Before-irreflexive, one_reached, one_of_last}
+use Rattle.cap_spec.proofs.Lemmas.{HasWord-inside, short_segment, Before-asymmetric, Before-irreflexive, one_reached, one_of_last}
 use Rattle.cap_spec.proofs.ProofNames.{List, None, Some, [], append_assoc, arith, inl, inr, length, length-append, refl, subst, sym, ℕ}
 use Rattle.cap_spec.proofs.ProofNames.{◌++◌, ◌+◌, ◌<◌, ◌∷◌, ◌≡◌, ◌≤◌, ◌⊎◌, IsOneOf, segment_of, Before, IsNumbered}
 use Rattle.cap_spec.proofs.ProofNames.{IsMessage, IsTour, Reaches, ◌^◌}
@@ -7,11 +7,11 @@ use Rattle.std.proofs.Common.{get_or, take, ◌-◌}
 use Rattle.std.proofs.lemmas.List.{length-map}
 use Rattle.cap_vet.specs.Trails.{Ahead, IsTrail}
 use Rattle.cap_vet.proofs.OneTrail.{root_trail}
-use Rattle.cap_trace.specs.Branches.{element_row, past_element}
+use Rattle.cap_trace.specs.Branches.{element_row}
 use Rattle.cap_trace.specs.TraceNames.{Step, AreBranches, path_of, place_of, rest_from, skipped, step_of, words_left, IsTraceable}
 use Rattle.cap_trace.specs.TraceNames.{PassesAt, HasCome, HasPassed, IsBlockedAt, IsPut, ReportsPath, word_ahead, Branch, GoesBelow, IsBranch}
 use Rattle.cap_trace.specs.TraceNames.{Form, Object, Pointers, Struct, Structs, WordPlace}
-use Rattle.cap_trace.proofs.Branches.{after_element, after_word, branches_join, branches_split, element_taken, few_branches, last_apart, nothing_left}
+use Rattle.cap_trace.proofs.Branches.{branch_after, branches_join, element_branch, branches_split, element_taken, few_branches, last_apart, nothing_left}
 use Rattle.cap_trace.proofs.Branches.{rest_append, row_fits, word_taken}
 use Rattle.cap_trace.proofs.Numbering.{number_order}
 use Rattle.cap_trace.proofs.Onward.{next_tour, root_tour, up_to_last}
@@ -97,7 +97,7 @@ has_space m depth n fs f h =
 
 -- Without one that has nothing left, the same words are ahead.
 pub went_up : (m : List (List ℕ)) (depth n : ℕ) (fs : List Branch) (f : Branch) → HasPassed m depth n (fs ++ f ∷ [])
-    → f.left ≡ 0 → HasPassed m depth n fs
+    → f.count ≤ f.taken → HasPassed m depth n fs
 went_up m depth n fs f h none = record {
   path = h.path;
   seen = h.seen;
@@ -115,7 +115,8 @@ pub took_word : (m : List (List ℕ)) (depth n : ℕ) (fs : List Branch) (f : Br
 took_word m depth n fs f h some =
     let gs = fs ++ skipped f 1 ∷ [] in
     let b = branches_split m depth 1 fs (f ∷ []) h.stack in
-    let next = after_word m depth (length fs + 1) f some b.1.0 in
+    let fits = row_fits m depth (length fs + 1) f some b.1.0 in
+    let less : f.taken < f.count = omega (arith, some, fits.1) in
     let trail = subst (λ (u : List Ahead). IsTrail m (h.path ∷ h.seen) u) (word_taken fs f some) h.trail in
     let tour : IsTour m (path_of gs) (h.tour ++ path_of gs ∷ []) =
     next_tour m h.path h.seen (word_ahead gs (place_of f)) (rest_from [] 1 gs) h.tour trail h.is_tour in record {
@@ -124,9 +125,9 @@ took_word m depth n fs f h some =
       tour = h.tour ++ path_of gs ∷ [];
       is_tour = tour;
       number = omega (arith, h.number, length-append h.tour (path_of gs ∷ []));
-      stack = branches_join m depth 1 fs (skipped f 1 ∷ []) b.0 (next.0, tt);
+      stack = branches_join m depth 1 fs (skipped f 1 ∷ []) b.0 (branch_after m depth (length fs + 1) f less b.1.0, tt);
       exists = b.1.0.exists;
-      inside = next.1;
+      inside = omega (arith, fits.0, less);
       passable = λ q k level s w r. h.passable q (before (path_of gs) q k (one_of_last q (path_of gs) h.tour (tour.all q level s w r (inr k)))) level s w r;
     }
   where
@@ -137,13 +138,12 @@ took_word m depth n fs f h some =
 -- After k words of that row it comes to the next one.
 pub came_further : (m : List (List ℕ)) (depth n : ℕ) (fs : List Branch) (f : Branch) (k : ℕ) → k < words_left f.form f
     → HasPassed m depth (n + k) (fs ++ skipped f k ∷ [])
-    → HasCome m depth (n + (k + 1)) (fs ++ skipped f (k + 1) ∷ []) (record { segment = f.segment; at = f.next + k })
+    → HasCome m depth (n + (k + 1)) (fs ++ skipped f (k + 1) ∷ []) (record { segment = f.segment; at = f.start + f.taken + k })
 came_further m depth n fs f k some h =
     let number : n + (k + 1) ≡ n + k + 1 = omega arith in
-    let next : f.next + (k + 1) ≡ f.next + k + 1 = omega arith in
-    let left : f.left - (k + 1) ≡ f.left - k - 1 = omega arith in
+    let next : f.start + f.taken + k ≡ f.start + (f.taken + k) = omega arith in
     let taken : f.taken + (k + 1) ≡ f.taken + k + 1 = omega arith in
-    rw (number, next, left, taken) (took_word m depth (n + k) fs (skipped f k) h (still_left f.form f some))
+    rw (number, next, taken) (took_word m depth (n + k) fs (skipped f k) h (still_left f.form f some))
   where
     still_left : (form : Form) (f : Branch) → k < words_left form f → 0 < words_left form (skipped f k)
     still_left Struct f less = omega (arith, less)
@@ -152,35 +152,44 @@ came_further m depth n fs f k some h =
 
 pub came_first : (m : List (List ℕ)) (depth n : ℕ) (fs : List Branch) (f : Branch) → 0 < words_left f.form f
     → HasPassed m depth n (fs ++ f ∷ [])
-    → HasCome m depth (n + 1) (fs ++ skipped f 1 ∷ []) (record { segment = f.segment; at = f.next + 0 })
+    → HasCome m depth (n + 1) (fs ++ skipped f 1 ∷ []) (record { segment = f.segment; at = f.start + f.taken + 0 })
 came_first m depth n fs f some h =
-    let place : f.next + 0 ≡ f.next = omega arith in rw place (took_word m depth n fs f h some)
+    let place : f.start + f.taken + 0 ≡ f.start + f.taken = omega arith in rw place (took_word m depth n fs f h some)
 
--- The numbers of the row that the search is in have 32 bits.
+-- The last of the branches that the search has is one.
+pub row_at : (m : List (List ℕ)) (depth n : ℕ) (branches now : List Branch) (here : WordPlace) (i : ℕ) (d : Branch)
+    → HasCome m depth n branches here → now ≡ branches → i + 1 ≡ length branches
+    → IsBranch m depth (length (take i branches) + 1) (get_or now i d)
+row_at m depth n branches now here i d h same long =
+    let parts = subst (λ (u : List Branch). AreBranches m depth 1 u) (last_apart branches now i d same long) h.stack in
+    (branches_split m depth 1 (take i branches) (get_or now i d ∷ []) parts).1.0
+
+-- Its words lie inside their segment.
 pub row_here : (m : List (List ℕ)) (depth n : ℕ) (branches now : List Branch) (here : WordPlace) (i : ℕ) (d : Branch) → IsMessage m
     → HasCome m depth n branches here → now ≡ branches → i + 1 ≡ length branches
     → 0 < words_left (get_or now i d).form (get_or now i d)
-    → ((get_or now i d).next + (get_or now i d).left < 2 ^ 32) × ((get_or now i d).taken + (get_or now i d).left < 2 ^ 32)
-    × (words_left (get_or now i d).form (get_or now i d) ≡ (get_or now i d).left)
+    → ((get_or now i d).start + (get_or now i d).count < 2 ^ 32)
+    × (words_left (get_or now i d).form (get_or now i d) ≡ (get_or now i d).count - (get_or now i d).taken)
 row_here m depth n branches now here i d message h same long some =
-    let parts = subst (λ (u : List Branch). AreBranches m depth 1 u) (last_apart branches now i d same long) h.stack in
-    let b = (branches_split m depth 1 (take i branches) (get_or now i d ∷ []) parts).1.0 in
-    row_fits m depth (length (take i branches) + 1) (get_or now i d) message some b
+    let b = row_at m depth n branches now here i d h same long in
+    let fits = row_fits m depth (length (take i branches) + 1) (get_or now i d) some b in
+    (omega (arith, fits.0, short_segment m (get_or now i d).segment message b.exists), fits.1)
 
 -- Of a list of structs it takes the next element first.
 pub took_element : (m : List (List ℕ)) (depth n : ℕ) (fs : List Branch) (f : Branch) → HasPassed m depth n (fs ++ f ∷ [])
-    → f.form ≡ Structs → 0 < f.left → HasPassed m depth n ((fs ++ past_element f ∷ []) ++ element_row f ∷ [])
+    → f.form ≡ Structs → f.taken < f.count → HasPassed m depth n ((fs ++ skipped f 1 ∷ []) ++ element_row f ∷ [])
 took_element m depth n fs f h is some =
     let b = branches_split m depth 1 fs (f ∷ []) h.stack in
-    let next = after_element m depth (length fs + 1) f is some b.1.0 in record {
+    let row = element_branch m depth (length fs + 1) f is some b.1.0 in record {
       path = h.path;
       seen = h.seen;
       trail = subst (λ (u : List Ahead). IsTrail m (h.path ∷ h.seen) u) (element_taken fs f is some) h.trail;
       tour = h.tour;
       is_tour = h.is_tour;
       number = h.number;
-      stack = subst (λ (u : List Branch). AreBranches m depth 1 u) (sym (append_assoc fs (past_element f ∷ []) (element_row f ∷ [])))
-          (branches_join m depth 1 fs (past_element f ∷ element_row f ∷ []) b.0 next);
+      stack = subst (λ (u : List Branch). AreBranches m depth 1 u) (sym (append_assoc fs (skipped f 1 ∷ []) (element_row f ∷ [])))
+          (branches_join m depth 1 fs (skipped f 1 ∷ element_row f ∷ []) b.0
+          (branch_after m depth (length fs + 1) f some b.1.0, (row.0, tt)));
       passable = h.passable;
     }
 

@@ -12,21 +12,6 @@ use Rattle.cap_trace.specs.TraceNames.{Step, IsBranch, rest_of, row_branch, Poin
 use Rattle.cap_trace.proofs.Branches.{branch}
 use Rattle.cap_ptr.specs.declared.shapes.Shape.TheVariants as shape
 
-pub struct_words : (m : List (List ℕ)) (s w : ℕ) {k t b : ℕ} (q tag : ℕ) {n c : ℕ} (d : ℕ) {p at many : ℕ}
-    → FindsObject m s w k t b q tag n c (shape.Struct d p) → at ≡ b + d → many ≡ p → (base : List Step) (level : ℕ)
-    → rest_of base level (row_branch Struct t at many) ≡ object_children base q tag t b level
-struct_words m s w {b} q tag d {at} {many} f e g base level =
-    let start : at ≡ b + data_size q = omega (arith, e, f.object.shape.data_words) in
-    let count : many ≡ pointer_size q = g ∙ f.object.shape.pointers in
-    rw (f.object.shape.kind, start, count) refl
-
--- a list of pointers
-pub pointers_words : (m : List (List ℕ)) (s w : ℕ) {k t b : ℕ} (q tag : ℕ) {n c many : ℕ}
-    → FindsObject m s w k t b q tag n c (shape.Pointers many) → (base : List Step) (level : ℕ)
-    → rest_of base level (row_branch Pointers t b many) ≡ object_children base q tag t b level
-pointers_words m s w q tag f base level =
-    rw (f.object.shape.kind, f.object.shape.code, f.object.shape.count) refl
-
 -- elements that have no pointers have no pointer words
 no_pointers : (base : List Step) (level t b ds i n : ℕ) → element_rows base level t b ds 0 i n ≡ []
 no_pointers base level t b ds i zero = refl
@@ -41,35 +26,6 @@ structs_empty m s w {t} {b} q tag size d level f (inr e) base =
     let x : pointer_size tag ≡ 0 = sym f.object.shape.pointers ∙ e in
     rw (f.object.shape.kind, f.object.shape.code, x)
     (sym (no_pointers base (level + (element_levels 1 + 1)) t (b + 1) (data_size tag) 0 (middle tag)))
-
--- the elements' words fit the list
-pub structs_fit : (m : List (List ℕ)) (s w k t b q tag n c size count d p : ℕ)
-    → FindsObject m s w k t b q tag n c (shape.Structs size count d p)
-    → b + 1 + count * (d + p) ≤ length (segment_of m t)
-structs_fit m s w k t b q tag n c size count d p f =
-    let fits : TagFits tag (list_size q) = (f.object.tagged (f.object.shape.kind, f.object.shape.code)).1 in
-    let capacity : count * (d + p) ≤ list_size q =
-    rw (f.object.shape.count, f.object.shape.data_words, f.object.shape.pointers) fits.1 in
-    omega (arith, capacity, f.finds.inside.inside, extent_structs q f.object.shape.kind f.object.shape.code)
-
-pub structs_words : (m : List (List ℕ)) (s w : ℕ) {k t b : ℕ} (q tag : ℕ) {n c : ℕ} (size : ℕ) {count d p : ℕ}
-    → FindsObject m s w k t b q tag n c (shape.Structs size count d p) → (base : List Step) (level : ℕ)
-    → rest_of base level (branch Structs t (b + 1) count 0 d p) ≡ object_children base q tag t b level
-structs_words m s w q tag size f base level =
-    let two : level + 1 + 1 ≡ level + 2 = omega arith in
-    rw (f.object.shape.kind, f.object.shape.code, f.object.shape.count, f.object.shape.data_words, f.object.shape.pointers, two) refl
-
--- the branch of a list of structs
-pub structs_branch : (m : List (List ℕ)) (s w : ℕ) {k t b : ℕ} (q tag : ℕ) {n c : ℕ} (size : ℕ) {count d p : ℕ} (depth level : ℕ)
-    → FindsObject m s w k t b q tag n c (shape.Structs size count d p) → 0 < p → 0 < count → count < 2 ^ 32 → p < 2 ^ 16
-    → level + element_levels count ≤ depth → IsBranch m depth level (branch Structs t (b + 1) count 0 d p)
-structs_branch m s w q tag size {count = zero} depth level f some each many short low = absurd (omega (arith, each))
-structs_branch m s w {k} {t} {b} q tag {n} {c} size {count = suc count} {d} {p} depth level f some each many short low = record {
-  exists = f.finds.inside.exists;
-  inside = structs_fit m s w k t b q tag n c size (suc count) d p f;
-  counted = (omega (arith, many), some, omega (arith, short));
-  shallow = omega (arith, low);
-}
 
 -- how many levels an object takes below its own, by its shape, and by its tag if it has one
 pub levels_shape : (q tag other : ℕ) (x : Shape) → IsShape q tag x → (IsComposite q → tag ≡ other)
@@ -93,9 +49,3 @@ not_deep m depth s w level q tag x f within (k, t, b, q', other, g, tagged, past
     (subst (λ (u : ℕ). HasWord m t u tag) same.start (subst (λ (u : ℕ). HasWord m u x.start tag) same.segment (f.object.tagged h).0))
     (tagged (subst IsComposite same.shape h))) in
     omega (arith, levels, ap (λ (u : ℕ). levels_below u other) same.shape, within)
-
--- the start of the elements is a number of 32 bits
-pub start_fits : (m : List (List ℕ)) (s w : ℕ) {k t b : ℕ} (q tag : ℕ) {n c : ℕ} (size count d p : ℕ) → IsMessage m
-    → FindsObject m s w k t b q tag n c (shape.Structs size count d p) → Fits w32 (b + 1)
-start_fits m s w {k} {t} {b} q tag {n} {c} size count d p h f =
-    omega (arith, short_segment m t h f.finds.inside.exists, structs_fit m s w k t b q tag n c size count d p f)

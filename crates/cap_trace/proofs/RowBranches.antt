@@ -78,29 +78,7 @@ row_some m depth s w level p r b h f within words branch some = (
       (object_trail m seen _ ahead _ _ _ p.word 0 t (near_finds m s w p r h f) (no_tag m p.segment p.at p.word r f))),
 )
   where
-    has_left : (form : Form) (b : Branch) → 0 < words_left form b → 0 < b.left
-    has_left Struct b some = some
-    has_left Pointers b some = some
+    has_left : (form : Form) (b : Branch) → 0 < words_left form b → b.taken < b.count
+    has_left Struct b some = omega (arith, some)
+    has_left Pointers b some = omega (arith, some)
     has_left Structs b some = absurd (omega (arith, some))
-
--- A struct has as many pointers as its word says.
-pub struct_count : (q n : ℕ) → HasPointers q n → kind q ≡ 0 → n ≡ pointer_size q
-struct_count q n (inl (k, e)) is = e
-struct_count q n (inr (inl (k, c, e))) is = absurd (omega (arith, k, is))
-struct_count q n (inr (inr (k, some, few, e))) is = absurd (omega (arith, k, is))
-
--- What isn't a struct and has pointers is a list of them.
-pub list_count : (q n : ℕ) → HasPointers q n → (kind q ≡ 0 → ⊥) → 0 < n → (kind q ≡ 1) × (code q ≡ 6) × (n ≡ list_size q)
-list_count q n (inl (k, e)) other some = absurd (other k)
-list_count q n (inr (inl (k, c, e))) other some = (k, c, e)
-list_count q n (inr (inr (k, s, few, e))) other some = absurd (omega (arith, e, some))
-
--- Its words are those of the branch,
-pub row_list_words : (q t b at n : ℕ) → kind q ≡ 1 → code q ≡ 6 → at ≡ b → n ≡ list_size q → (base : List Step) (level : ℕ)
-    → rest_of base level (row_branch Pointers t at n) ≡ object_children base q 0 t b level
-row_list_words q t b at n k c start many base level = rw (k, c, start, many) refl
-
--- and so are those of a struct.
-pub row_struct_words : (q t b at n : ℕ) → kind q ≡ 0 → at ≡ b + data_size q → n ≡ pointer_size q → (base : List Step) (level : ℕ)
-    → rest_of base level (row_branch Struct t at n) ≡ object_children base q 0 t b level
-row_struct_words q t b at n k start many base level = rw (k, start, many) refl

@@ -25,10 +25,13 @@ path_of branches = map step_of branches
 
 -- the pointer words that are left of an object of this level, which the base leads to
 abbrev pub form_rest : Form → List Step → ℕ → Branch → List Ahead
-form_rest Struct base level f = row base (level + 1) Ptr f.segment f.next f.taken f.left
-form_rest Pointers base level f = row base (level + 1) Item f.segment f.next f.taken f.left
+form_rest Struct base level f =
+    row base (level + 1) Ptr f.segment (f.start + f.taken) f.taken (f.count - f.taken)
+form_rest Pointers base level f =
+    row base (level + 1) Item f.segment (f.start + f.taken) f.taken (f.count - f.taken)
 form_rest Structs base level f =
-    element_rows base (level + 1 + 1) f.segment f.next f.data_words f.pointers f.taken f.left
+    element_rows base (level + 1 + 1) f.segment (f.start + f.taken * (f.data_words + f.pointers))
+    f.data_words f.pointers f.taken (f.count - f.taken)
 
 abbrev pub rest_of : List Step → ℕ → Branch → List Ahead
 rest_of base level f = form_rest f.form base level f
@@ -41,21 +44,21 @@ rest_from base level (f ∷ branches) =
 
 -- how many words are left of a row
 abbrev pub words_left : Form → Branch → ℕ
-words_left Struct f = f.left
-words_left Pointers f = f.left
+words_left Struct f = f.count - f.taken
+words_left Pointers f = f.count - f.taken
 words_left Structs f = 0
 
--- how many words those that are left take
-abbrev pub words_taken : Form → Branch → ℕ
-words_taken Struct f = f.left
-words_taken Pointers f = f.left
-words_taken Structs f = f.left * (f.data_words + f.pointers)
+-- how many words all of them take
+abbrev pub words_in : Form → Branch → ℕ
+words_in Struct f = f.count
+words_in Pointers f = f.count
+words_in Structs f = f.count * (f.data_words + f.pointers)
 
--- Their numbers have 32 bits, and those of a struct's pointers 16. Elements have pointers.
+-- The number of a struct's pointer has 16 bits. Elements have pointers.
 abbrev pub IsCounted : Form → Branch → Type 0
-IsCounted Struct f = f.taken + f.left ≤ 2 ^ 16
-IsCounted Pointers f = f.taken + f.left < 2 ^ 32
-IsCounted Structs f = (f.taken + f.left < 2 ^ 32) × (0 < f.pointers) × (f.pointers ≤ 2 ^ 16)
+IsCounted Struct f = (f.taken ≤ f.count) × (f.count ≤ 2 ^ 16)
+IsCounted Pointers f = f.taken ≤ f.count
+IsCounted Structs f = (f.taken ≤ f.count) × (0 < f.pointers) × (f.pointers ≤ 2 ^ 16)
 
 -- how many levels they take below that of the object
 abbrev pub levels_in : Form → ℕ
@@ -66,7 +69,7 @@ levels_in Structs = 1
 -- The words lie inside their segment, and the object is within the depth limit.
 pub record IsBranch (m : List (List ℕ)) (depth level : ℕ) (f : Branch) : Type 0 where
   pub exists : f.segment < length m
-  pub inside : f.next + words_taken f.form f ≤ length (segment_of m f.segment)
+  pub inside : f.start + words_in f.form f ≤ length (segment_of m f.segment)
   pub counted : IsCounted f.form f
   pub shallow : level + levels_in f.form ≤ depth
 
@@ -78,28 +81,18 @@ AreBranches m depth level (f ∷ branches) =
 
 -- the next word of a row
 abbrev pub place_of : Branch → WordPlace
-place_of f = record { segment = f.segment; at = f.next }
+place_of f = record { segment = f.segment; at = f.start + f.taken }
 
--- the row after n words
+-- the branch after n more are taken
 abbrev pub skipped : Branch → ℕ → Branch
-skipped f n = record f { next = f.next + n; left = f.left - n; taken = f.taken + n }
+skipped f n = record f { taken = f.taken + n }
 
 -- a row of n pointers, of which none is taken
 abbrev pub row_branch : Form → ℕ → ℕ → ℕ → Branch
-row_branch form s at n = record {
-  form = form;
-  segment = s;
-  next = at;
-  left = n;
-  taken = 0;
-  data_words = 0;
-  pointers = 0;
-}
+row_branch form s start n =
+    record { form = form; segment = s; start = start; count = n; taken = 0; data_words = 0; pointers = 0 }
 
 -- the pointers of the next element
 abbrev pub element_row : Branch → Branch
-element_row f = row_branch Struct f.segment (f.next + f.data_words) f.pointers
-
--- the elements after the next one
-abbrev pub past_element : Branch → Branch
-past_element f = record f { next = f.next + f.data_words + f.pointers; left = f.left - 1; taken = f.taken + 1 }
+element_row f =
+    row_branch Struct f.segment (f.start + f.taken * (f.data_words + f.pointers) + f.data_words) f.pointers

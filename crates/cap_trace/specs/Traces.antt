@@ -21,7 +21,7 @@ words_of_object base level (Some f) = rest_of base level f
 -- It is a branch with words left, if there is one.
 abbrev pub OptionBranch : List (List ℕ) → ℕ → ℕ → Option Branch → Type 0
 OptionBranch m depth level None = ⊤
-OptionBranch m depth level (Some f) = IsBranch m depth level f × (0 < f.left)
+OptionBranch m depth level (Some f) = IsBranch m depth level f × (f.taken < f.count)
 
 -- The pointer can't be followed, or leads to an object past the depth limit.
 abbrev pub IsBlockedAt : List (List ℕ) → ℕ → ℕ → ℕ → ℕ → Type 0

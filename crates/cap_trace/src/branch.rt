@@ -1,6 +1,6 @@
 //! A step on the way down to a pointer word, and the words that come after it.
 
-ghost use Rattle.cap_trace.specs.Branches.{IsCounted, element_row, past_element, place_of, row_branch, skipped, step_of, words_left};
+ghost use Rattle.cap_trace.specs.Branches.{IsCounted, element_row, place_of, row_branch, skipped, step_of, words_left};
 ghost use Rattle.std.specs.Prelude.{◌+◌, ◌<◌, ◌^◌, ◌≡◌, ◌≤◌};
 
 use cap_spec::Step;
@@ -31,11 +31,11 @@ pub(crate) struct Branch {
     // These two share four bytes, so that a branch has 20.
     pub(crate) form: Form,
     pub(crate) segment: u16,
-    /// The first word of those that are left.
-    pub(crate) next: u32,
-    /// How many are left.
-    pub(crate) left: u32,
-    /// How many were taken.
+    /// The word where they start.
+    pub(crate) start: u32,
+    /// How many there are.
+    pub(crate) count: u32,
+    /// How many of them were taken. Nothing else changes.
     pub(crate) taken: u32,
     /// Of each element of a list of structs, in words.
     pub(crate) data_words: u16,
@@ -46,15 +46,15 @@ pub(crate) struct Branch {
 impl Branch {
     /// A row of `count` pointers from this word on, of which none is taken.
     #[inline(always)]
-    pub(crate) fn row(form: Form, segment: u32, at: u32, count: u32) -> Branch
+    pub(crate) fn row(form: Form, segment: u32, start: u32, count: u32) -> Branch
         requires { segment < 2 ^ 16 }
-        ensures { result ≡ row_branch form segment at count }
+        ensures { result ≡ row_branch form segment start count }
     {
         Branch {
             form,
             segment: segment as u16,
-            next: at,
-            left: count,
+            start,
+            count,
             taken: 0,
             data_words: 0,
             pointers: 0,
@@ -64,59 +64,43 @@ impl Branch {
     /// How many words are left, if it is a row.
     #[inline(always)]
     pub(crate) fn words_left(&self) -> u32
+        requires { self.now.taken ≤ self.now.count }
         ensures { result ≡ words_left self.now.form self.now }
     {
         match self.form {
             Form::Structs => 0,
-            _ => self.left,
+            _ => self.count - self.taken,
         }
     }
 
     /// Takes the next word of a row.
     #[inline(always)]
     pub(crate) fn take_word(&mut self) -> WordPlace
-        requires some { 1 ≤ self.old.left }
-        requires place { self.old.next + self.old.left < 2 ^ 32 }
-        requires number { self.old.taken + self.old.left < 2 ^ 32 }
+        requires some { self.old.taken < self.old.count }
+        requires place { self.old.start + self.old.count < 2 ^ 32 }
         ensures place { result ≡ place_of self.old }
         ensures after { self.new ≡ skipped self.old 1 }
     {
         let place = WordPlace {
             segment: u32::from(self.segment),
-            at: self.next,
+            at: self.start + self.taken,
         };
-        self.skip(1);
+        self.taken += 1;
         place
-    }
-
-    /// Takes this many words of a row.
-    #[inline(always)]
-    pub(crate) fn skip(&mut self, words: u32)
-        requires some { words ≤ self.old.left }
-        requires place { self.old.next + self.old.left < 2 ^ 32 }
-        requires number { self.old.taken + self.old.left < 2 ^ 32 }
-        ensures { self.new ≡ skipped self.old words }
-    {
-        self.next += words;
-        self.left -= words;
-        self.taken += words;
     }
 
     /// Takes the next element, and gives the row of its pointers.
     #[inline(always)]
     pub(crate) fn take_element(&mut self) -> Branch
-        requires some { 1 ≤ self.old.left }
-        requires place { self.old.next + self.old.data_words + self.old.pointers < 2 ^ 32 }
-        requires number { self.old.taken + self.old.left < 2 ^ 32 }
+        requires some { self.old.taken < self.old.count }
+        requires place { (element_row self.old).start + self.old.pointers < 2 ^ 32 }
         ensures row { result ≡ element_row self.old }
-        ensures after { self.new ≡ past_element self.old }
+        ensures after { self.new ≡ skipped self.old 1 }
     {
-        let (segment, pointers) = (u32::from(self.segment), u32::from(self.pointers));
-        let at = self.next + u32::from(self.data_words);
-        self.next = at + pointers;
-        self.left -= 1;
+        let (data_words, pointers) = (u32::from(self.data_words), u32::from(self.pointers));
+        let at = self.start + self.taken * (data_words + pointers) + data_words;
         self.taken += 1;
-        Branch::row(Form::Struct, segment, at, pointers)
+        Branch::row(Form::Struct, u32::from(self.segment), at, pointers)
     }
 
     /// The step to the last one that was taken.

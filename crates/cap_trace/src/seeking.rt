@@ -107,17 +107,17 @@ fn pass_nulls<M: Segments, const N: usize>(
         return 0;
     }
     let most = most.min(u64::from(left)) as u32;
-    let segment = u32::from(row.segment);
+    let (segment, next) = (u32::from(row.segment), row.start + row.taken);
     // How many words it goes on past the next one.
     let mut further = 0;
-    'nulls: while further + 1 < most && message.word(segment, row.next + further) == 0 {
+    'nulls: while further + 1 < most && message.word(segment, next + further) == 0 {
         further += 1;
     }
     *here = WordPlace {
         segment,
-        at: row.next + further,
+        at: next + further,
     };
-    branches.as_mut_slice()[top].skip(further + 1);
+    branches.as_mut_slice()[top].taken += further + 1;
     u64::from(further) + 1
 }
 
@@ -281,7 +281,8 @@ fn look_target<const N: usize>(
 {
     match below_target(target, depth, level_after(branches)) {
         Below::Object(Some(branch)) => {
-            enter(branches, here, branch);
+            branches.push(branch);
+            go_on(branches, here);
             Looked::Entered
         }
         Below::Object(None) => Looked::Nothing,
@@ -306,7 +307,8 @@ fn pass_followed<M: Segments, const N: usize>(
 {
     match look_below(message, depth, here, level_after(branches)) {
         Below::Object(Some(branch)) => {
-            enter(branches, here, branch);
+            branches.push(branch);
+            go_on(branches, here);
             true
         }
         Below::Object(None) => leave(branches, here),
@@ -314,28 +316,7 @@ fn pass_followed<M: Segments, const N: usize>(
     }
 }
 
-// Goes on to the first of the words that a branch has left.
-#[inline(always)]
-fn enter<const N: usize>(branches: &mut BranchStack<N>, here: &mut WordPlace, branch: Branch)
-    requires some { 0 < branch.left }
-    requires passed { (m : List (List ℕ)) × (depth n : ℕ) × IsMessage m × (depth ≤ N)
-        × HasPassed m depth n (branches.old.items ++ branch ∷ []) }
-    ensures { (m : List (List ℕ)) (depth n : ℕ) →
-        HasPassed m depth n (branches.old.items ++ branch ∷ []) →
-        HasCome m depth (n + 1) branches.new.items here.new }
-{
-    match branch.form {
-        Form::Structs => {
-            let mut list = branch;
-            let row = list.take_element();
-            branches.push(list);
-            enter_row(branches, here, row);
-        }
-        _ => enter_row(branches, here, branch),
-    }
-}
-
-// The same of a row.
+// Goes on to the first word of this row.
 #[inline(always)]
 fn enter_row<const N: usize>(branches: &mut BranchStack<N>, here: &mut WordPlace, branch: Branch)
     requires some { 0 < words_left branch.form branch }
@@ -350,7 +331,28 @@ fn enter_row<const N: usize>(branches: &mut BranchStack<N>, here: &mut WordPlace
     branches.push(row);
 }
 
-// Goes on to the next of the words that are left. `false` if none is.
+// Goes on to the next of the words that the last branch has left. It is changed in its place: a copy
+// would wait for each of its fields to be written.
+#[inline(always)]
+fn go_on<const N: usize>(branches: &mut BranchStack<N>, here: &mut WordPlace)
+    requires { (others : List Branch) × (last : Branch)
+        × (branches.old.items ≡ others ++ last ∷ []) × (last.taken < last.count)
+        × (m : List (List ℕ)) × (depth n : ℕ) × IsMessage m × (depth ≤ N)
+        × HasPassed m depth n branches.old.items }
+    ensures { (m : List (List ℕ)) (depth n : ℕ) → HasPassed m depth n branches.old.items →
+        HasCome m depth (n + 1) branches.new.items here.new }
+{
+    let top = branches.len() - 1;
+    match branches.as_slice()[top].form {
+        Form::Structs => {
+            let row = branches.as_mut_slice()[top].take_element();
+            enter_row(branches, here, row);
+        }
+        _ => *here = branches.as_mut_slice()[top].take_word(),
+    }
+}
+
+// The same of all branches. `false` if none has a word left.
 #[inline(always)]
 fn leave<const N: usize>(branches: &mut BranchStack<N>, here: &mut WordPlace) -> bool
     requires { (m : List (List ℕ)) × (depth n : ℕ) × IsMessage m × (depth ≤ N)
@@ -358,11 +360,16 @@ fn leave<const N: usize>(branches: &mut BranchStack<N>, here: &mut WordPlace) ->
     ensures { (m : List (List ℕ)) (depth n : ℕ) → HasPassed m depth n branches.old.items →
         Passes m depth n branches.new.items here.new result }
 {
-    'up: while let Some(branch) = branches.pop() {
-        if branch.left > 0 {
-            enter(branches, here, branch);
+    'up: loop {
+        let count = branches.len();
+        if count == 0 {
+            return false;
+        }
+        let top = &branches.as_slice()[count - 1];
+        if top.taken < top.count {
+            go_on(branches, here);
             return true;
         }
+        branches.pop();
     }
-    false
 }

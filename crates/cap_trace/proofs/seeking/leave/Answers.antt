@@ -1,17 +1,24 @@
-use Rattle.std.proofs.Common.{[], arith, rules, ◌≡◌}
+use Rattle.std.proofs.Common.{arith, get_or, length, rules, sym, take, ◌+◌, ◌-◌, ◌∙◌, ◌≡◌}
+use Rattle.cap_trace.specs.TraceNames.{row_branch, Struct}
+use Rattle.cap_trace.proofs.Branches.{last_apart, none_left}
 use Rattle.cap_trace.proofs.Coming.{none_higher, went_up}
 use Rattle.cap_trace.proofs.seeking.leave.Goals as goal
 
-pub enter-requires : goal.enter-requires
-enter-requires g c =
+pub go_on-requires : goal.go_on-requires
+go_on-requires g c =
     let (m, depth, n, message, deep, h) = c.requires in
-    (search rules, (c.if-branch-gt0.true, (m, depth, n, message, deep, rw c.in-Some.ensures.items at c.up.invariant m depth n h)))
+    let long : c.len-count.result - 1 + 1 ≡ length c.up.branches.items = omega (arith, c.len-count.ensures.value, c.if-count-eq0.false) in
+    let parts = last_apart c.up.branches.items c.as_slice.result.now _ (row_branch Struct 0 0 0) c.as_slice.ensures.value long in
+    (search rules, (_, _, parts, c.if-top.true, m, depth, n, message, deep, c.up.invariant m depth n h))
 
 pub up-preserved : goal.up-preserved
 up-preserved g c = λ m depth n h.
-    went_up m depth n _ c.in-Some.branch (rw c.in-Some.ensures.items at c.up.invariant m depth n h) (omega (arith, c.if-branch-gt0.false))
+    let long : c.len-count.result - 1 + 1 ≡ length c.up.branches.items = omega (arith, c.len-count.ensures.value, c.if-count-eq0.false) in
+    let parts = last_apart c.up.branches.items c.as_slice.result.now _ (row_branch Struct 0 0 0) c.as_slice.ensures.value long in
+    let gone : c.pop.new.self.items ≡ take (c.len-count.result - 1) c.up.branches.items = rw c.len-count.ensures.value c.pop.ensures.rest in
+    rw gone (went_up m depth n _ _ (rw parts at c.up.invariant m depth n h) (omega (arith, c.if-top.false)))
 
-pub returns : goal.returns
-returns g c = λ m depth n h more less path a.
-    let none : c.up.branches.items ≡ [] = search rules in
+pub returns-then-count-eq0 : goal.returns-then-count-eq0
+returns-then-count-eq0 g c = λ m depth n h more less path a.
+    let none = none_left c.up.branches.items (omega (arith, c.len-count.ensures.value, c.if-count-eq0.true)) in
     none_higher m depth n more path (rw none at c.up.invariant m depth n h) less a
