@@ -1,7 +1,6 @@
 -- The steps on the way down to a word, and the words that come after it.
 use Rattle.cap_spec.proofs.ProofNames.{List, [], ap, append-nil, append_assoc, arith, get_or, length, length-append, refl, subst, suc}
-use Rattle.cap_spec.proofs.ProofNames.{sym, zero, ℕ, ◌++◌, ◌+◌, ◌-◌, ◌<◌, ◌∙◌, ◌∷◌, ◌≡◌, ◌≤◌, ◌^◌, IsMessage, segment_of}
-use Rattle.cap_spec.proofs.Lemmas.{short_segment}
+use Rattle.cap_spec.proofs.ProofNames.{sym, zero, ℕ, ◌++◌, ◌+◌, ◌-◌, ◌<◌, ◌∙◌, ◌∷◌, ◌≡◌, ◌≤◌, segment_of}
 use Rattle.std.proofs.Math.Nat.{mul-le-mul_right}
 use Rattle.std.proofs.Common.{◌*◌, set, take, take_all}
 use Rattle.std.proofs.lemmas.List.{get_or_push, length-set, set_at, take_at, take_more}

@@ -1,15 +1,14 @@
 -- The pointer words of an object, as a branch.
-use Rattle.cap_spec.proofs.Lemmas.{one_word, short_segment, extent_structs, one_object}
-use Rattle.cap_spec.proofs.ProofNames.{Fits, List, [], ap, arith, inl, inr, length, refl, subst, suc, sym}
-use Rattle.cap_spec.proofs.ProofNames.{w32, zero, ℕ, ◌*◌, ◌+◌, ◌<◌, ◌^◌, ◌∙◌, ◌≡◌, ◌≤◌, ◌⊎◌, eqb_tells}
-use Rattle.cap_spec.proofs.ProofNames.{element_levels, IsComposite, TagFits, HasWord, IsMessage, segment_of, code}
-use Rattle.cap_spec.proofs.ProofNames.{data_size, list_size, middle, pointer_size, IsDeepAt, levels_below}
+use Rattle.cap_spec.proofs.Lemmas.{one_word, one_object}
+use Rattle.cap_spec.proofs.ProofNames.{List, [], ap, arith, inl, inr, refl, subst, suc, sym}
+use Rattle.cap_spec.proofs.ProofNames.{zero, ℕ, ◌+◌, ◌∙◌, ◌≡◌, ◌≤◌, ◌⊎◌, eqb_tells}
+use Rattle.cap_spec.proofs.ProofNames.{element_levels, IsComposite, HasWord, code}
+use Rattle.cap_spec.proofs.ProofNames.{data_size, middle, pointer_size, IsDeepAt, levels_below}
 use Rattle.cap_ptr.specs.Shapes.{FindsObject, FindsTargetBy, IsShape}
 use Rattle.cap_ptr.specs.declared.shapes.Shape.{Shape}
 use Rattle.cap_ptr.specs.declared.shapes.Target.{Target}
 use Rattle.cap_vet.specs.VetNames.{levels_of, object_children, Ahead, element_rows}
-use Rattle.cap_trace.specs.TraceNames.{Step, IsBranch, rest_of, row_branch, Pointers, Struct, Structs}
-use Rattle.cap_trace.proofs.Branches.{branch}
+use Rattle.cap_trace.specs.TraceNames.{Step}
 use Rattle.cap_ptr.specs.declared.shapes.Shape.TheVariants as shape
 
 -- elements that have no pointers have no pointer words

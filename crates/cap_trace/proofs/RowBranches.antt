@@ -1,15 +1,15 @@
 -- The pointer words of an object that one word describes alone.
 use Rattle.cap_spec.proofs.Lemmas.{leads-near, object-not_wrong, one_object}
 use Rattle.cap_spec.proofs.ProofNames.{List, None, Some, [], ap, arith, false, inl, inr, ne_eqb, pos, refl, subst}
-use Rattle.cap_spec.proofs.ProofNames.{sym, ℕ, ◌++◌, ◌+◌, ◌<◌, ◌==◌, ◌∙◌, ◌∷◌, ◌≡◌, ◌≤◌, Finds, IsComposite, to_object}
-use Rattle.cap_spec.proofs.ProofNames.{HasWord, code, data_size, kind, list_size, pointer_size, levels_below}
+use Rattle.cap_spec.proofs.ProofNames.{sym, ℕ, ◌++◌, ◌<◌, ◌==◌, ◌∙◌, ◌∷◌, ◌≡◌, ◌≤◌, Finds, IsComposite, to_object}
+use Rattle.cap_spec.proofs.ProofNames.{HasWord, code, list_size, pointer_size, levels_below}
 use Rattle.cap_ptr.specs.Rows.{FindsRow, HasPointers}
 use Rattle.cap_ptr.specs.declared.near.Row.{Row}
 use Rattle.cap_ptr.proofs.NearObjects.{pointers-plain}
 use Rattle.cap_vet.specs.VetNames.{object_children, Ahead, IsTrail}
 use Rattle.cap_vet.proofs.OneTrail.{object_trail}
 use Rattle.cap_trace.specs.NearPointers.{IsNearPointer}
-use Rattle.cap_trace.specs.TraceNames.{Step, IsBranch, rest_of, row_branch, words_left, PassesAt, GoesBelow, IsBlockedAt, Object}
+use Rattle.cap_trace.specs.TraceNames.{Step, IsBranch, rest_of, words_left, PassesAt, GoesBelow, IsBlockedAt, Object}
 use Rattle.cap_trace.specs.TraceNames.{Branch, Form, Pointers, Struct, Structs}
 use Rattle.cap_trace.specs.declared.near.NearPointer.{NearPointer}
 

@@ -1,4 +1,4 @@
-use Rattle.std.proofs.Common.{arith, length, rules, sym, ◌+◌, ◌-◌, ◌≡◌}
+use Rattle.std.proofs.Common.{arith, length, rules, ◌+◌, ◌-◌, ◌≡◌}
 use Rattle.cap_spec.proofs.Lemmas.{short_segment}
 use Rattle.cap_trace.specs.TraceNames.{row_branch, Struct}
 use Rattle.cap_trace.proofs.Branches.{element_branch, is_row, last_read, last_written, length_parts, row_fits}

@@ -1,4 +1,4 @@
-use Rattle.std.proofs.Common.{arith, get_or, length, rules, sym, take, ◌+◌, ◌-◌, ◌∙◌, ◌≡◌}
+use Rattle.std.proofs.Common.{arith, length, rules, take, ◌+◌, ◌-◌, ◌≡◌}
 use Rattle.cap_trace.specs.TraceNames.{row_branch, Struct}
 use Rattle.cap_trace.proofs.Branches.{last_apart, none_left}
 use Rattle.cap_trace.proofs.Coming.{none_higher, went_up}

@@ -1,4 +1,4 @@
-use Rattle.std.proofs.Common.{List, [], get_or, take, ℕ, ◌++◌, ◌+◌, ◌-◌, ◌<◌, ◌∷◌}
+use Rattle.std.proofs.Common.{[], get_or, take, ℕ, ◌++◌, ◌+◌, ◌-◌, ◌<◌, ◌∷◌}
 use Rattle.cap_trace.specs.TraceNames.{row_branch, skipped, HasCome, Struct}
 use Rattle.cap_trace.proofs.seeking.pass_nulls.Given as goal
 
@@ -9,7 +9,7 @@ invariant-nulls g l =
       few : l.further < l.most;
       passed : (depth n : ℕ) → HasCome m depth n items l.fn.here
           → HasCome m depth (n + (l.further + 1)) (take l.top items ++ skipped (get_or items l.top (row_branch Struct 0 0 0)) (l.further + 1) ∷ [])
-              (record { segment = l.segment; at = l.next + l.further });
+          (record { segment = l.segment; at = l.next + l.further });
     }
 
 abbrev pub decreases-nulls : goal.decreases-nulls
