@@ -115,8 +115,13 @@ mutual
   -- what a pointer word denotes is one tree, with one charge and one depth
   pub one_tree : (m : List (List ℕ)) (s w : ℕ) (t t' : Tree) (c d c' d' : ℕ) → Denotes m s w t c d
       → Denotes m s w t' c' d' → Same t t' c c' d d'
-  one_tree m s w null null c d c' d' h h' = grind (arith, common_steps, one_lead)
-  one_tree m s w (cap i) (cap i') c d c' d' h h' = grind (arith, common_steps, one_lead)
+  one_tree m s w null null c d c' d' h h' =
+      let o = one_lead m s w c c' to_null to_null h.0 h'.0 in
+      record { part = refl; charge = o.0; depth = h.1 ∙ sym h'.1 }
+  one_tree m s w (cap i) (cap i') c d c' d' h h' =
+      let o = one_lead m s w c c' (to_cap i) (to_cap i') h.0 h'.0 in
+      let e : i ≡ i' = cc o.1 in
+      record { part = ap cap e; charge = o.0; depth = h.1 ∙ sym h'.1 }
   one_tree m s w (struct ws ts) (struct ws' ts') c d c' d' h h' =
       let (k, t, b, q, tag, ds, ps, inner, deep, found, own, each) = h in
       let (k', t', b', q', tag', ds', ps', inner', deep', found', own', each') = h' in
@@ -129,7 +134,14 @@ mutual
       ts ts' inner deep inner' deep' each each' in
       let z = charged_same found found' same.charge same.depth in
       record { part = rw (e, same.part) refl; charge = z.0; depth = z.1 }
-  one_tree m s w (scalars e vs) (scalars e' vs') c d c' d' h h' = grind (arith, common_steps, one_found, charged_same)
+  one_tree m s w (scalars e vs) (scalars e' vs') c d c' d' h h' =
+      let (k, t, b, q, tag, n, found, own) = h in
+      let (k', t', b', q', tag', n', found', own') = h' in
+      let o = one_found found.object found'.object in
+      let x : e ≡ e' = cc o.kind in
+      let y : n ≡ n' = cc o.kind in
+      let z = charged_same found found' refl refl in
+      record { part = rw x (ap (scalars e') (own ∙ rw (o.segment, o.start, x, y) refl ∙ sym own')); charge = z.0; depth = z.1 }
   one_tree m s w (pointers ts) (pointers ts') c d c' d' h h' =
       let (k, t, b, q, tag, n, inner, deep, found, each) = h in
       let (k', t', b', q', tag', n', inner', deep', found', each') = h' in
@@ -153,7 +165,8 @@ mutual
       (ap (λ u. u + 1) o.start) x y v each') in
       let z = charged_same found found' same.charge same.depth in
       record { part = rw (x, y, same.part) refl; charge = z.0; depth = z.1 }
-  one_tree m s w t t' c d c' d' h h' = grind (arith, common_steps, same_form)
+  one_tree m s w t t' c d c' d' h h' =
+      let f = same_form m s w t t' c d c' d' h h' in absurd (omega (arith, f.1, f.2))
 
   -- what the pointer words at places denote
   pub one_each : (m : List (List ℕ)) (ps ps' : List (ℕ × ℕ)) → ps ≡ ps' → (ts ts' : Trees) (c d c' d' : ℕ)
