@@ -3,7 +3,7 @@ use Rattle.cap_spec.specs.Denoting.{places}
 use Rattle.cap_spec.specs.Tree.{none}
 use Rattle.cap_spec.proofs.Pointers.Following.{one_lead}
 use Rattle.cap_spec.proofs.Pointers.Shapes.{pointers_shape, struct_shape, structs_shape}
-use Rattle.cap_spec.proofs.ProofNames.{List, Some, [], arith, inl, inr, refl, subst, suc, sym, zero, ℕ, ◌*◌, ◌+◌, ◌<◌}
+use Rattle.cap_spec.proofs.ProofNames.{List, Some, [], ap, arith, inl, inr, refl, subst, suc, sym, zero, ℕ, ◌*◌, ◌+◌, ◌<◌}
 use Rattle.cap_spec.proofs.ProofNames.{◌∙◌, ◌∷◌, ◌≡◌, AreElements, DenoteEach, Denotes, Finds, FindsKind, Lead, Leads}
 use Rattle.cap_spec.proofs.ProofNames.{HasWord, PathLeads, ReachesSpot, Spot, StepsTo, element, level_of, word, code}
 use Rattle.cap_spec.proofs.ProofNames.{kind, DenotesAt, Tree, Trees, more, node_at, part_at, pointers, struct, structs}
@@ -15,6 +15,27 @@ use Rattle.cap_spec.proofs.Trees.OneTree.{Formed, HasForm, cons_parts, each_more
 pub found_form : (m : List (List ℕ)) (s w : ℕ) (x : Tree) (c d k t b q : ℕ) → Denotes m s w x c d → Finds m s w k t b q
     → HasForm x (2 + kind q * (1 + code q))
 found_form m s w x c d k t b q h f = search (rules, formed, one_lead)
+
+-- the number of that form, by the kind of the object
+pub struct_form : {m : List (List ℕ)} {s w k t b q tag ds ps : ℕ} (x : Tree) (c d : ℕ) → Denotes m s w x c d
+    → FindsKind m s w (Struct ds ps) k t b q tag → HasForm x 2
+struct_form {m} {s} {w} {k} {t} {b} {q} x c d h f =
+    let e = number_struct (kind q) (code q) (struct_shape f.shape).kind in
+    subst (HasForm x) e (found_form m s w x c d k t b q h f.finds)
+
+-- a list's object has a number by its code
+list_form : {m : List (List ℕ)} {s w k t b q : ℕ} (x : Tree) (c d y : ℕ) → Denotes m s w x c d
+    → Finds m s w k t b q → kind q ≡ 1 → code q ≡ y → HasForm x (3 + y)
+list_form {m} {s} {w} {k} {t} {b} {q} x c d y h f e g =
+    subst (HasForm x) (number_list (kind q) (code q) e ∙ ap (λ u. 3 + u) g) (found_form m s w x c d k t b q h f)
+
+pub pointers_form : {m : List (List ℕ)} {s w k t b q tag n : ℕ} (x : Tree) (c d : ℕ) → Denotes m s w x c d
+    → FindsKind m s w (Pointers n) k t b q tag → HasForm x 9
+pointers_form x c d h f = let a = pointers_shape f.shape in list_form x c d 6 h f.finds a.kind a.code
+
+pub structs_form : {m : List (List ℕ)} {s w k t b q tag n ds ps : ℕ} (x : Tree) (c d : ℕ) → Denotes m s w x c d
+    → FindsKind m s w (Structs n ds ps) k t b q tag → HasForm x 10
+structs_form x c d h f = let a = structs_shape f.shape in list_form x c d 7 h f.finds a.kind a.code
 
 -- a step from a word to a struct's pointer has a part of the tree at its end
 each_at : (m : List (List ℕ)) (t b n : ℕ) (ts : Trees) (c d i x : ℕ) → DenoteEach m (places t b n) ts c d
@@ -73,7 +94,7 @@ struct_at m s w (struct ws ts) c d k t b q tag ds ps i h f lt =
     let y : ps ≡ ps' = cc o.kind in
     let r = each_at m t' (b' + ds') ps' ts inner deep i (b + ds + i) each (rw (← y) lt) (rw (o.start, x) refl) in
     (r.0, r.1, (r.2, r.3, subst (λ (y : ℕ). Denotes m y (b + ds + i) r.0 r.2 r.3) (sym o.segment) r.4))
-struct_at m s w x c d k t b q tag ds ps i h f lt = search (rules, struct_shape, number_struct, found_form)
+struct_at m s w x c d k t b q tag ds ps i h f lt = absurd (omega (arith, struct_form x c d h f))
 
 -- a word that finds a list of pointers denotes one, whose entries they denote
 pointers_at : (m : List (List ℕ)) (s w : ℕ) (x : Tree) (c d k t b q tag n i : ℕ) → Denotes m s w x c d
@@ -85,7 +106,7 @@ pointers_at m s w (pointers ts) c d k t b q tag n i h f lt =
     let x : n ≡ n' = cc o.kind in
     let r = each_at m t' b' n' ts inner deep i (b + i) each (rw (← x) lt) (rw o.start refl) in
     (r.0, r.1, (r.2, r.3, subst (λ (y : ℕ). Denotes m y (b + i) r.0 r.2 r.3) (sym o.segment) r.4))
-pointers_at m s w x c d k t b q tag n i h f lt = search (rules, pointers_shape, number_list, found_form)
+pointers_at m s w x c d k t b q tag n i h f lt = absurd (omega (arith, pointers_form x c d h f))
 
 -- a tree at an element, by equal places
 element_moved : (m : List (List ℕ)) (t t' x ds ds' ps ps' : ℕ) (u : Tree) → t ≡ t' → ds ≡ ds' → ps ≡ ps'
@@ -105,7 +126,7 @@ structs_at m s w (structs ds' ps' es) c d k t b q tag n ds ps i h f lt =
     let r = elements_at m t' (b' + 1) ds' ps' n' es inner deep i (b + 1 + i * (ds + ps)) each (rw (← x) lt)
     (rw (o.start, y, z) refl) in
     (r.0, r.1, element_moved m t' t (b + 1 + i * (ds + ps)) ds' ds ps' ps r.0 (sym o.segment) (sym y) (sym z) r.2)
-structs_at m s w x c d k t b q tag n ds ps i h f lt = search (rules, structs_shape, number_list, found_form)
+structs_at m s w x c d k t b q tag n ds ps i h f lt = absurd (omega (arith, structs_form x c d h f))
 
 -- A step from a spot that has a tree leads to where the tree's part is.
 pub step_to_part : (m : List (List ℕ)) (a : Spot) (step : Step) (b : Spot) (x : Tree)

@@ -15,11 +15,18 @@ one_step m (word s w) (Item i) x y (inl (k, t, b, q, tag, n, finds, less, ends))
     let (k', t', b', q', tag', n', finds', less', ends') = h in
     let o = one_found finds finds' in
     ends ∙ rw (o.segment, o.start) refl ∙ sym ends'
-one_step m (word s w) (Item i) x y (inl (k, t, b, q, tag, n, finds, less, ends)) (inr h) = search (rules, one_found)
+one_step m (word s w) (Item i) x y (inl (k, t, b, q, tag, n, finds, less, ends)) (inr h) =
+    let (k', t', b', q', tag', n', ds', ps', finds', less', ends') = h in
+    absurd (cc (one_found finds finds').kind)
 one_step m (word s w) (Item i) x y (inr (k, t, b, q, tag, n, ds, ps, finds, less, ends)) (inl h) =
-    search (rules, one_found)
+    let (k', t', b', q', tag', n', finds', less', ends') = h in
+    absurd (cc (one_found finds finds').kind)
 one_step m (word s w) (Item i) x y (inr (k, t, b, q, tag, n, ds, ps, finds, less, ends)) (inr h) =
-    search (rules, one_found)
+    let (k', t', b', q', tag', n', ds', ps', finds', less', ends') = h in
+    let o = one_found finds finds' in
+    let d : ds ≡ ds' = cc o.kind in
+    let p : ps ≡ ps' = cc o.kind in
+    ends ∙ rw (o.segment, o.start, d, p) refl ∙ sym ends'
 one_step m (element t b ds ps) (Ptr i) x y g h = g.1 ∙ sym h.1
 one_step m (element t b ds ps) (Item i) x y g h = absurd g
 

@@ -6,7 +6,7 @@ use Rattle.cap_spec.proofs.Pointers.Conditions.{NoneBelow, and_not, none_below_r
 use Rattle.cap_spec.proofs.Pointers.Conditions.{one-not_outside, one-not_pad_far, one-not_pad_near, one-not_reserved}
 use Rattle.cap_spec.proofs.Pointers.Conditions.{outside-not_missing, outside-not_reserved, two-none_below_far}
 use Rattle.cap_spec.proofs.Pointers.Conditions.{two-none_below_tag, two-not_tag_kind, two-not_tag_offset}
-use Rattle.cap_spec.proofs.ProofNames.{List, arith, inl, length, negsuc, pos, subst, ℕ, ℤ, ◌*◌, ◌+◌, ◌<◌, ◌≡◌, ◌≢◌, ◌≤◌}
+use Rattle.cap_spec.proofs.ProofNames.{List, arith, inl, inr, length, negsuc, pos, subst, ℕ, ℤ, ◌*◌, ◌+◌, ◌<◌, ◌≡◌, ◌≢◌, ◌≤◌}
 use Rattle.cap_spec.proofs.ProofNames.{Finds, Condition, IsComposite, IsOnePad, IsTwoPad, Lead, Leads, Says, Wrong}
 use Rattle.cap_spec.proofs.ProofNames.{rank, to_cap, to_null, to_object, HasWord, segment_of, IsFar, IsReserved}
 use Rattle.cap_spec.proofs.ProofNames.{data_size, extent, far_segment, kind, list_size, middle, pad, pointer_size, two}
@@ -68,7 +68,8 @@ wrong-reserved m s w p h r = record { holds = (p, h, inl r); first = none_below_
 -- the word of its one-word pad is reserved
 pub wrong-pad_reserved : (m : List (List ℕ)) (s w p q : ℕ) → HasWord m s w p → IsOnePad p
     → HasWord m (far_segment p) (pad p) q → IsReserved q → Wrong m s w Reserved
-wrong-pad_reserved m s w p q h one hq r = search (rules, none_below_reserved)
+wrong-pad_reserved m s w p q h one hq r =
+    record { holds = (p, h, inr (one, q, hq, r)); first = none_below_reserved m s w }
 
 -- the segment of its pad is missing
 pub wrong-missing : (m : List (List ℕ)) (s w p : ℕ) → HasWord m s w p → IsFar p → length m ≤ far_segment p
@@ -79,13 +80,23 @@ wrong-missing m s w p h far past = grind (arith, common_steps)
 pub wrong-outside : (m : List (List ℕ)) (s w p : ℕ) → HasWord m s w p → IsFar p → far_segment p < length m
     → length (segment_of m (far_segment p)) < pad p + (two p + 1) → Wrong m s w PadOutside
 wrong-outside m s w p h far there past =
-    search (rules, and_not, none_below_reserved, outside-not_reserved, outside-not_missing)
+    let c2 = and_not m s w Reserved (none_below_reserved m s w) (outside-not_reserved m s w p h far past) in
+    record {
+      holds = (p, h, far, (there, past));
+      first = and_not m s w SegmentMissing c2 (outside-not_missing m s w p h far there past);
+    }
 
 -- the word of its one-word pad is far
 pub wrong-pad_far : (m : List (List ℕ)) (s w p q : ℕ) → HasWord m s w p → IsOnePad p
     → HasWord m (far_segment p) (pad p) q → IsFar q → Wrong m s w PadIsFar
 wrong-pad_far m s w p q h one hq far =
-    search (rules, and_not, none_below_reserved, one-not_reserved, one-not_missing, one-not_outside)
+    let c2 = and_not m s w Reserved (none_below_reserved m s w)
+    (one-not_reserved m s w p q h one hq (λ r. omega (arith, far, r.0))) in
+    let c3 = and_not m s w SegmentMissing c2 (one-not_missing m s w p q h one hq) in
+    record {
+      holds = (p, q, h, one, hq, far);
+      first = and_not m s w PadOutside c3 (one-not_outside m s w p q h one hq);
+    }
 
 -- It has a two-word pad inside its segment.
 module _ (m : List (List ℕ)) (s w p f q : ℕ) (h : HasWord m s w p) (both : IsTwoPad p)

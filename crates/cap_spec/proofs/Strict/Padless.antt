@@ -3,10 +3,10 @@ use Rattle.cap_spec.specs.Denoting.{places}
 use Rattle.cap_spec.specs.Tree.{none}
 use Rattle.cap_spec.proofs.Canonical.TreeMeasures.{cost, costs, each_measured, element_costs, elements_measured, idle}
 use Rattle.cap_spec.proofs.Canonical.TreeMeasures.{measured, scalars_extra, structs_extra}
-use Rattle.cap_spec.proofs.Paths.Arrivals.{found_form}
+use Rattle.cap_spec.proofs.Paths.Arrivals.{pointers_form, struct_form, structs_form}
 use Rattle.cap_spec.proofs.Pointers.Following.{one_lead}
-use Rattle.cap_spec.proofs.Pointers.Shapes.{pointers_extra, pointers_shape, pointers_words, scalars_words, struct_extra}
-use Rattle.cap_spec.proofs.Pointers.Shapes.{struct_shape, struct_words, structs_shape, structs_words}
+use Rattle.cap_spec.proofs.Pointers.Shapes.{pointers_extra, pointers_words, scalars_words, struct_extra, struct_words}
+use Rattle.cap_spec.proofs.Pointers.Shapes.{structs_words}
 use Rattle.cap_spec.proofs.ProofNames.{List, [], arith, inl, inr, length, pos, refl, subst, suc, sym, zero, ℕ, ◌*◌, ◌+◌}
 use Rattle.cap_spec.proofs.ProofNames.{◌<◌, ◌∷◌, ◌≡◌, ◌≤◌, AreElements, DenoteEach, Denotes, FindsCharged, FindsKind}
 use Rattle.cap_spec.proofs.ProofNames.{words_from, Lead, Leads, extra, to_object, segment_of, PathLeads, Spot, StepsTo}
@@ -15,7 +15,7 @@ use Rattle.cap_spec.proofs.ProofNames.{structs, tree_count, Pointers, Struct, St
 use Rattle.cap_spec.proofs.Trees.Charges.{each_charged, elements_fit, length-places}
 use Rattle.cap_spec.proofs.Trees.DenotedTrees.{elements_inside, range_length}
 use Rattle.cap_spec.proofs.Trees.Finding.{one_found}
-use Rattle.cap_spec.proofs.Trees.OneTree.{each_more, number_list, number_struct}
+use Rattle.cap_spec.proofs.Trees.OneTree.{each_more}
 use Rattle.cap_spec.proofs.Trees.Readings.{length-values}
 
 -- what is at a spot is charged no more than its cost
@@ -131,7 +131,7 @@ to_pointer m s w (struct ws ts) c d k t b q tag ds ps i h le f lt =
     let a = struct_tight ws ts found own each le in
     let r = each_tight m t' (b' + ds') ps' ts inner deep i (b + ds + i) each a.1 (rw (← y) lt) (rw (o.start, x) refl) in
     (r.0, subst (λ (y : ℕ). Tight m (word y (b + ds + i)) r.0) (sym o.segment) r.1)
-to_pointer m s w x c d k t b q tag ds ps i h le f lt = search (rules, struct_shape, number_struct, found_form)
+to_pointer m s w x c d k t b q tag ds ps i h le f lt = absurd (omega (arith, struct_form x c d h f))
 
 to_entry : (m : List (List ℕ)) (s w : ℕ) (x : Tree) (c d k t b q tag n i : ℕ) → Denotes m s w x c d → c ≤ cost x
     → FindsKind m s w (Pointers n) k t b q tag → i < n → (u : Tree) × Tight m (word t (b + i)) u
@@ -142,7 +142,7 @@ to_entry m s w (pointers ts) c d k t b q tag n i h le f lt =
     let a = pointers_tight ts found each le in
     let r = each_tight m t' b' n' ts inner deep i (b + i) each a.1 (rw (← x) lt) (rw o.start refl) in
     (r.0, subst (λ (y : ℕ). Tight m (word y (b + i)) r.0) (sym o.segment) r.1)
-to_entry m s w x c d k t b q tag n i h le f lt = search (rules, pointers_shape, number_list, found_form)
+to_entry m s w x c d k t b q tag n i h le f lt = absurd (omega (arith, pointers_form x c d h f))
 
 -- an element by equal places
 tight_moved : (m : List (List ℕ)) (t t' x ds ds' ps ps' : ℕ) (u : Tree) → t ≡ t' → ds ≡ ds' → ps ≡ ps'
@@ -162,7 +162,7 @@ to_element m s w (structs ds' ps' es) c d k t b q tag n ds ps i h le f lt =
     let r = elements_tight m t' (b' + 1) ds' ps' n' es inner deep i (b + 1 + i * (ds + ps))
     (elements_inside found.object) each a.1 (rw (← x) lt) (rw (o.start, y, z) refl) in
     (r.0, tight_moved m t' t (b + 1 + i * (ds + ps)) ds' ds ps' ps r.0 (sym o.segment) (sym y) (sym z) r.1)
-to_element m s w x c d k t b q tag n ds ps i h le f lt = search (rules, structs_shape, number_list, found_form)
+to_element m s w x c d k t b q tag n ds ps i h le f lt = absurd (omega (arith, structs_form x c d h f))
 
 -- a step from a spot that is charged no more than its cost leads to another one
 step_tight : (m : List (List ℕ)) (a : Spot) (step : Step) (b : Spot) (x : Tree) → Tight m a x → StepsTo m a step b

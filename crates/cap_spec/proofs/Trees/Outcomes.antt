@@ -11,7 +11,7 @@ use Rattle.cap_spec.proofs.ProofNames.{TagFits, Lead, Leads, Says, Wrong, near, 
 use Rattle.cap_spec.proofs.ProofNames.{two_pads, HasWord, segment_of, IsFar, IsReserved, cap_index, code, data_size}
 use Rattle.cap_spec.proofs.ProofNames.{extent, far_segment, kind, list_size, middle, pad, pointer_size, two}
 use Rattle.cap_spec.proofs.ProofNames.{signed_offset_of, Reason, OutOfSegment, PadIsFar, PadOutside, Reserved}
-use Rattle.cap_spec.proofs.ProofNames.{SegmentMissing, TagKind, TagOffset, common_steps}
+use Rattle.cap_spec.proofs.ProofNames.{SegmentMissing, TagKind, TagOffset}
 use Rattle.cap_spec.proofs.Trees.Charges.{extent_structs}
 
 -- Every word of a message has a fate: a reason is wrong there, or it leads to null,
@@ -117,10 +117,21 @@ module _ (m : List (List ℕ)) (s w p f q : ℕ) (h : HasWord m s w p) (both : I
       ]
 
   one-far-fate : IsOnePad f → Fate m s w
-  one-far-fate one = grind (arith, common_steps, tag-fate, wrong-content_missing)
+  one-far-fate one =
+      elim (cases_lt (far_segment f) (length m)) [
+        | inl there ↦ tag-fate one there
+        | inr past ↦ inl (SegmentMissing, wrong-content_missing m s w p f q h both hf hq one past)
+      ]
 
   two-fate : Fate m s w
-  two-fate = grind (arith, common_steps, wrong-pad_near, one-far-fate)
+  two-fate =
+      elim (eqb_tells (kind f) 2) [
+        | inr (x, other) ↦ inl (_, wrong-pad_near m s w p f q h both hf hq (λ one. other one.0))
+        | inl (x, far) ↦ elim (eqb_tells (two f) 0) [
+          | inr (y, other) ↦ inl (_, wrong-pad_near m s w p f q h both hf hq (λ one. other one.1))
+          | inl (y, single) ↦ one-far-fate (far, single)
+        ]
+      ]
 
 -- its pad lies inside its segment, or it doesn't
 far-fate : (m : List (List ℕ)) (s w p : ℕ) → HasWord m s w p → IsFar p → far_segment p < length m

@@ -2,9 +2,8 @@
 use Rattle.cap_spec.specs.Denoting.{places}
 use Rattle.cap_spec.specs.Tree.{none}
 use Rattle.cap_spec.proofs.Frames.Messages.{HasWord-at, HasWord-inside}
-use Rattle.cap_spec.proofs.Paths.Arrivals.{found_form, lead_word}
-use Rattle.cap_spec.proofs.Pointers.Shapes.{pointers_levels, pointers_shape, scalars_levels, struct_levels}
-use Rattle.cap_spec.proofs.Pointers.Shapes.{struct_shape, structs_levels, structs_shape}
+use Rattle.cap_spec.proofs.Paths.Arrivals.{found_form, lead_word, pointers_form, struct_form, structs_form}
+use Rattle.cap_spec.proofs.Pointers.Shapes.{pointers_levels, scalars_levels, struct_levels, structs_levels}
 use Rattle.cap_spec.proofs.ProofNames.{List, [], arith, inl, inr, length, max, pos, refl, suc, zero, ℕ, ◌+◌, ◌-◌, ◌<◌}
 use Rattle.cap_spec.proofs.ProofNames.{◌∷◌, ◌≡◌, ◌≤◌, ◌⊎◌, ∥∥₁_elim, cases_lt, eqb_tells, AreElements, DenoteEach}
 use Rattle.cap_spec.proofs.ProofNames.{Denotes, Finds, FindsKind, element_levels, levels_below, values_of, words_from}
@@ -13,7 +12,7 @@ use Rattle.cap_spec.proofs.ProofNames.{pointer_size, Tree, Trees, cap, more, nul
 use Rattle.cap_spec.proofs.ProofNames.{Pointers, Struct, Structs, rules, FindsCharged}
 use Rattle.cap_spec.proofs.Trees.Charges.{lead_kind}
 use Rattle.cap_spec.proofs.Trees.Finding.{one_found, pointers_found, scalars_found, struct_found, structs_found}
-use Rattle.cap_spec.proofs.Trees.OneTree.{cons_parts, formed, number_list, number_struct}
+use Rattle.cap_spec.proofs.Trees.OneTree.{each_more, formed}
 use Rattle.cap_spec.proofs.Trees.Outcomes.{Fate, fate}
 use Rattle.cap_spec.proofs.Verdicts.OneVerdict.{denoted_not_wrong}
 use Rattle.cap_spec.specs.declared.Kind.{Kind}
@@ -37,11 +36,15 @@ ElementsWithin m n t b ds ps k = (es : Trees) × (c d : ℕ) × AreElements m t 
 -- the first of some words, and the others
 first_each : (m : List (List ℕ)) (n s w : ℕ) (ps : List (ℕ × ℕ)) → EachWithin m n ((s, w) ∷ ps) → TreeWithin m n s w
 first_each m n s w ps (none, c, d, h, le) = absurd (cc h.0)
-first_each m n s w ps (more t ts, c, d, h, le) = search (rules, cons_parts)
+first_each m n s w ps (more t ts, c, d, h, le) =
+    let (c1, d1, c2, d2, own, after, charge, depth) = each_more m s w ps t ts c d h in
+    (t, c1, d1, own, omega (arith, depth, le))
 
 rest_each : (m : List (List ℕ)) (n s w : ℕ) (ps : List (ℕ × ℕ)) → EachWithin m n ((s, w) ∷ ps) → EachWithin m n ps
 rest_each m n s w ps (none, c, d, h, le) = absurd (cc h.0)
-rest_each m n s w ps (more t ts, c, d, h, le) = search (rules, cons_parts)
+rest_each m n s w ps (more t ts, c, d, h, le) =
+    let (c1, d1, c2, d2, own, after, charge, depth) = each_more m s w ps t ts c d h in
+    (ts, c2, d2, after, omega (arith, depth, le))
 
 -- Where it is decided of each word, it is decided of all.
 each_decided : (m : List (List ℕ)) (n : ℕ) → ((s w : ℕ) → Decided (TreeWithin m n s w)) → (ps : List (ℕ × ℕ))
@@ -92,7 +95,7 @@ module _ (m : List (List ℕ)) (n s w k t b q tag : ℕ) where
       let x : ds ≡ ds' = cc o.kind in
       let y : ps ≡ ps' = cc o.kind in
       (ts, inner, deep, rw (o.segment, o.start, x, y) each, omega (arith, found.depth, le))
-  in_struct f (x, c, d, h, le) = search (rules, struct_shape, number_struct, found_form)
+  in_struct f (x, c, d, h, le) = absurd (omega (arith, struct_form x c d h f))
 
   -- what the entries of a list of pointers denote
   in_pointers : {size : ℕ} → FindsKind m s w (Pointers size) k t b q tag → TreeWithin m (suc n) s w
@@ -102,17 +105,25 @@ module _ (m : List (List ℕ)) (n s w k t b q tag : ℕ) where
       let o = one_found f found.object in
       let x : size ≡ size' = cc o.kind in
       (ts, inner, deep, rw (o.segment, o.start, x) each, omega (arith, found.depth, le))
-  in_pointers f (x, c, d, h, le) = search (rules, pointers_shape, number_list, found_form)
+  in_pointers f (x, c, d, h, le) = absurd (omega (arith, pointers_form x c d h f))
 
   -- the elements of a list of structs
   in_structs : {size ds ps : ℕ} → FindsKind m s w (Structs size ds ps) k t b q tag → TreeWithin m (suc n) s w
       → ElementsWithin m (n - element_levels size) t (b + 1) ds ps size × (element_levels size ≤ n)
   in_structs {size} {ds} {ps} f (structs ds' ps' es, c, d, h, le) = search (rules, one_found, structs_levels)
-  in_structs f (x, c, d, h, le) = search (rules, structs_shape, number_list, found_form)
+  in_structs f (x, c, d, h, le) = absurd (omega (arith, structs_form x c d h f))
 
 -- An object has a level.
 no_level : (m : List (List ℕ)) (s w k t b q : ℕ) → Finds m s w k t b q → TreeWithin m 0 s w → ⊥
-no_level m s w k t b q f x8 = search (rules, found_form, lead_kind)
+no_level m s w k t b q f (struct ws ts, c, d, (k', t', b', q', tag, ds, ps, inner, deep, found, own, each), le) =
+    omega (arith, found.depth, le)
+no_level m s w k t b q f (scalars e vs, c, d, (k', t', b', q', tag, n, found, own), le) = omega (arith, found.depth, le)
+no_level m s w k t b q f (pointers ts, c, d, (k', t', b', q', tag, n, inner, deep, found, each), le) =
+    omega (arith, found.depth, le)
+no_level m s w k t b q f (structs ds ps es, c, d, (k', t', b', q', tag, n, inner, deep, found, each), le) =
+    omega (arith, found.depth, le)
+no_level m s w k t b q f (x, c, d, h, le) =
+    omega (arith, lead_kind m s w k t (pos b) q f.leads, found_form m s w x c d k t b q h f)
 
 -- an object, charged for itself and for what is below it
 charged_here : {m : List (List ℕ)} {s w k t b q tag : ℕ} {what : Kind} → FindsKind m s w what k t b q tag → (c d : ℕ)

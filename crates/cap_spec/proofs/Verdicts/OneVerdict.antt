@@ -9,8 +9,8 @@ use Rattle.cap_spec.proofs.Paths.Walks.{one_reached}
 use Rattle.cap_spec.proofs.Pointers.Following.{cap-not_wrong, null-not_wrong, object-not_wrong}
 use Rattle.cap_spec.proofs.ProofNames.{List, [], arith, inl, inr, refl, subst, sym, ℕ, ◌+◌, ◌∙◌, ◌∷◌, ◌≡◌, ◌≢◌, ◌≤◌}
 use Rattle.cap_spec.proofs.ProofNames.{◌⊎◌, IsWithin, Denotes, Finds, Wrong, AreDistinct, IsOneOf, Costs, Reaches, word}
-use Rattle.cap_spec.proofs.ProofNames.{Tree, cap, null, scalars, CostOf, Justified, levels_below, no_root, past_limit}
-use Rattle.cap_spec.proofs.ProofNames.{too_deep, Reason, Refusal, Step, common_steps, rules}
+use Rattle.cap_spec.proofs.ProofNames.{Tree, cap, null, pointers, scalars, struct, structs, CostOf, Justified, levels_below, no_root, past_limit}
+use Rattle.cap_spec.proofs.ProofNames.{too_deep, Reason, Refusal, Step, common_steps}
 use Rattle.cap_spec.proofs.Trees.Charges.{one_cost}
 
 -- one of some paths, its cost, and the others
@@ -115,8 +115,14 @@ pub denoted_not_wrong : (m : List (List ℕ)) (s w : ℕ) (t : Tree) (c d : ℕ)
     → Wrong m s w v → ⊥
 denoted_not_wrong m s w null c d h v g = null-not_wrong m s w c h.0 v g
 denoted_not_wrong m s w (cap i) c d h v g = cap-not_wrong m s w c i h.0 v g
-denoted_not_wrong m s w (scalars e vs) c d (k, t, b, q, tag, n, found, own) v g = search (rules, object-not_wrong)
-denoted_not_wrong m s w x3 c d h v g = search (rules, object-not_wrong)
+denoted_not_wrong m s w (struct ws ts) c d (k, t, b, q, tag, ds, ps, inner, deep, found, own, each) v g =
+    object-not_wrong m s w k t b q found.object.finds v g
+denoted_not_wrong m s w (scalars e vs) c d (k, t, b, q, tag, n, found, own) v g =
+    object-not_wrong m s w k t b q found.object.finds v g
+denoted_not_wrong m s w (pointers ts) c d (k, t, b, q, tag, n, inner, deep, found, each) v g =
+    object-not_wrong m s w k t b q found.object.finds v g
+denoted_not_wrong m s w (structs ds ps es) c d (k, t, b, q, tag, n, inner, deep, found, each) v g =
+    object-not_wrong m s w k t b q found.object.finds v g
 
 -- Where the root denotes a tree, nothing is wrong at a pointer word that a path reaches.
 pub reached_not_wrong : (m : List (List ℕ)) (t : Tree) (c d : ℕ) → Denotes m 0 0 t c d
