@@ -1,7 +1,8 @@
 -- Paths that go on at the elements of a list of structs.
 use Rattle.cap_spec.proofs.ProofNames.{List, Ok, Some, [], append_assoc, arith, length, mul-le-mul_right, refl, subst}
-use Rattle.cap_spec.proofs.ProofNames.{ℕ, ◌*◌, ◌++◌, ◌+◌, ◌<◌, ◌∷◌, ◌≡◌, ◌≤◌, segment_of, Spot, StepsTo, element}
+use Rattle.cap_spec.proofs.ProofNames.{ℕ, ◌*◌, ◌++◌, ◌+◌, ◌<◌, ◌∷◌, ◌≡◌, ◌≤◌, ◌^◌, segment_of, IsMessage, Spot, StepsTo, element}
 use Rattle.cap_spec.proofs.ProofNames.{word, IsDeepAt, rules}
+use Rattle.cap_spec.proofs.Frames.Messages.{short_segment}
 use Rattle.cap_vet.specs.PathWays.{LeadsToElements}
 use Rattle.cap_vet.specs.VetNames.{Step, Item, Ptr, Arrives, element_of, FindsNear, HasNoFaultBy, GivesAfter, IsWay}
 use Rattle.cap_vet.specs.VetNames.{Demands, Arrival, Found, PathStart, View, Way, To}
@@ -81,3 +82,12 @@ module _ {M : Type 0} {g : segments.Ghosts M} (m : List (List ℕ)) (start : Pat
 -- Each element lies among the words of all of them.
 pub element_within : (first n d p i last : ℕ) → first + n * (d + p) ≤ last → i < n → first + i * (d + p) + d + p ≤ last
 element_within first n d p i last h lt = search (rules, mul-le-mul_right)
+
+-- So the number of each word of it has at most 32 bits.
+pub element_small : {M : Type 0} {g : segments.Ghosts M} (e : StructElements M g) (i x a b : ℕ)
+    → IsMessage (g.segments e.message.now) → i < x → x ≡ e.count → a ≡ e.data_words → b ≡ e.pointers
+    → e.first + i * (a + b) + a + b < 2 ^ 32
+element_small {M} {g} e i x a b is lt n d p =
+    let few = short_segment (g.segments e.message.now) e.segment is e.exists in
+    let within = element_within e.first e.count e.data_words e.pointers i _ e.inside (omega (arith, lt, n)) in
+    rw (d, p) (omega (arith, few, within))
