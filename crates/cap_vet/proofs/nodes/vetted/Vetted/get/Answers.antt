@@ -30,3 +30,8 @@ returns-clause-node g c = λ t x d h.
 
 pub returns-in-None-clause-node : goal.returns-in-None-clause-node
 returns-in-None-clause-node g c = λ t x d h. no_node _ c.args.path.now t x d (returns-in-None-clause-none g c) h
+
+pub returns-clause-some : goal.returns-clause-some
+returns-clause-some g c =
+    let whole = take_all c.loop-step.step-index c.args.path.now (omega (arith, c.loop-step-test.false)) in
+    search (rules, message_of)
