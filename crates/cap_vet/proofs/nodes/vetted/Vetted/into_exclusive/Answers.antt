@@ -17,3 +17,6 @@ returns-clause-names g c = λ s w n first.
 
 pub first_overlap-requires-clause-accepted : goal.first_overlap-requires-clause-accepted
 first_overlap-requires-clause-accepted g c = (c.args.self.report, vetted_kept _ _ c.args.self.accepted)
+
+pub invariant_of-result : goal.invariant_of-result
+invariant_of-result g c = record { disjoint = ∣ c.in-None.ensures ∣₁ }

@@ -33,3 +33,6 @@ returns-in-Some-clause-refuses g c =
     omega (arith, c.numbers_for-needed.ensures.exact, c.if-marks-needed.false) in
     λ x h. ap Err (one_exclusive_fault _ _ _ (length c.args.marks.now) _ x
     (c.args.self.report, vetted_kept _ _ c.args.self.accepted, capacity, c.in-Some.ensures) h)
+
+pub invariant_of-result : goal.invariant_of-result
+invariant_of-result g c = record { disjoint = ∣ c.in-None.ensures ∣₁ }
