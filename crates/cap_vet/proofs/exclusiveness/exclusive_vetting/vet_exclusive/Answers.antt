@@ -43,3 +43,9 @@ returns-in-Ok-default-Some-clause-names g c = λ s w n met first.
 
 pub returns : goal.returns
 returns g c = search (rules, one_fault_under, no_fault_under)
+
+pub invariant_of-result : goal.invariant_of-result
+invariant_of-result g c =
+    let ok = rw c.in-Ok-default-None.field-0-1-is at c.in-Ok-default-None.ensures.ok in
+    let same = c.in-Ok-default-None.ensures.message in
+    record { disjoint = rw same (∣ ok.1 ∣₁) }
