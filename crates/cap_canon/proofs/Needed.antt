@@ -1,8 +1,9 @@
 -- How many data words are needed, from the last one down.
+use Rattle.cap_spec.proofs.Frames.Messages.{short_segment}
 use Rattle.cap_spec.proofs.Lemmas.{data_needed_le, range_length}
 use Rattle.cap_spec.proofs.ProofNames.{List, arith, false, get_or, get_or-drop, get_or-take, if◌then◌else◌, length, max}
-use Rattle.cap_spec.proofs.ProofNames.{suc, true, zero, ℕ, ◌*◌, ◌+◌, ◌-◌, ◌<◌, ◌==◌, ◌∷◌, ◌≡◌, ◌≢◌, ◌≤◌, ◌⊎◌, eqb_tells}
-use Rattle.cap_spec.proofs.ProofNames.{get_or_from_slice_get, data_needed, words_from, HasWord, segment_of, rules}
+use Rattle.cap_spec.proofs.ProofNames.{suc, true, zero, ℕ, ◌*◌, ◌+◌, ◌-◌, ◌<◌, ◌==◌, ◌∷◌, ◌≡◌, ◌≢◌, ◌≤◌, ◌⊎◌, ◌^◌, eqb_tells, IsMessage}
+use Rattle.cap_spec.proofs.ProofNames.{get_or_from_slice_get, mul-le-mul_right, data_needed, words_from, HasWord, segment_of, rules}
 use Rattle.cap_canon.specs.Trimming.{most_data}
 
 -- a word that isn't zero is needed
@@ -82,3 +83,11 @@ element_seen {count = count} {i = i} lt e w k =
 pub enough_seen : (m : List (List ℕ)) (s start at ds ps count i most : ℕ) → i < count → start + count * (ds + ps) ≤ length (segment_of m s) → most ≡ ds
     → ElementsSeen m s start at ds ps count i most → most ≡ most_data m s start ds ps count
 enough_seen m s start at ds ps count i most lt h e k = search (rules, most_within)
+
+-- The places of an element's words have 32 bits.
+pub element_small : (m : List (List ℕ)) (s start at ds ps count i : ℕ) → IsMessage m → s < length m
+    → start + count * (ds + ps) ≤ length (segment_of m s) → at ≡ start + i * (ds + ps) → i < count → at + ds + ps < 2 ^ 32
+element_small m s start at ds ps count i is exists inside place lt =
+    let few = short_segment m s is exists in
+    let within : start + i * (ds + ps) + ds + ps ≤ length (segment_of m s) = search (rules, mul-le-mul_right) in
+    omega (arith, few, within, place)

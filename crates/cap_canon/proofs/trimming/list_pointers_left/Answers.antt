@@ -1,6 +1,7 @@
 use Rattle.cap_canon.proofs.Elements.{buffered, children_seen, enough_children, no_children_seen}
+use Rattle.cap_canon.proofs.Needed.{element_small}
 use Rattle.cap_canon.proofs.trimming.list_pointers_left.Goals as goal
-use Rattle.cap_spec.proofs.ProofNames.{rules}
+use Rattle.cap_spec.proofs.ProofNames.{arith, rules}
 
 pub elements-init : goal.elements-init
 elements-init g c = no_children_seen (g.M.Segments.segments c.args.message.now) c.args.segment c.args.start c.args.data_words c.args.pointers c.args.count
@@ -16,3 +17,17 @@ pointers_left-most-requires-clause-denote g c =
 
 pub elements-preserved : goal.elements-preserved
 elements-preserved g c = search (rules, children_seen)
+
+pub overflow_add-at : goal.overflow_add-at
+overflow_add-at g c =
+    let small = element_small (g.M.Segments.segments c.args.message.now) c.args.segment c.args.start c.elements.at
+    c.args.data_words c.args.pointers c.args.count c.elements.counter (g.met.M.Segments.is_message c.args.message.now)
+    c.requires.exists c.requires.inside c.elements.invariant.place c.elements-test.true in
+    omega (arith, small)
+
+pub overflow_add-at-in-elements-2 : goal.overflow_add-at-in-elements-2
+overflow_add-at-in-elements-2 g c =
+    let small = element_small (g.M.Segments.segments c.args.message.now) c.args.segment c.args.start c.elements.at
+    c.args.data_words c.args.pointers c.args.count c.elements.counter (g.met.M.Segments.is_message c.args.message.now)
+    c.requires.exists c.requires.inside c.elements.invariant.place c.elements-test.true in
+    omega (arith, small)
