@@ -170,10 +170,11 @@ times:
 	python3 tests/scale.py build/capvet build/libcapvet.a --idle
 
 # Times the built program beside plain copying of the same bytes. Where Cap'n Proto's own C++ library and Rust
-# crate are installed, it times them too. Then it times the library's calls beside the C++ library, in one process, and
-# the program over small messages that take long.
+# crate are installed, it times them too. Then it times the library's calls beside the C++ library, in one process, the
+# program over small messages that take long, and the calls that read nodes and find paths.
 bench:
 	python3 bench/bench.py
 	python3 bench/in_process.py
 	python3 bench/amplified.py
 	python3 bench/nodes.py
+	python3 bench/paths.py
