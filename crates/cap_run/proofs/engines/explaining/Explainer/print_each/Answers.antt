@@ -57,3 +57,6 @@ returns-in-Err-flush_output-clause-broken g c = search (rules, length-messages_o
 
 pub print_next-requires : goal.print_next-requires
 print_next-requires g c = omega (arith, c.loop-number.invariant.few)
+
+pub returns-clause-broken : goal.returns-clause-broken
+returns-clause-broken g c = search (rules, length-messages_of)
