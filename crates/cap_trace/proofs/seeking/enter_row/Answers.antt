@@ -4,16 +4,14 @@ use Rattle.cap_trace.proofs.Branches.{row_fits}
 use Rattle.cap_trace.proofs.Coming.{has_space, last_branch, took_word}
 use Rattle.cap_trace.proofs.seeking.enter_row.Goals as goal
 
-pub take_word-requires-clause-some : goal.take_word-requires-clause-some
-take_word-requires-clause-some g c =
-    let (m, depth, n, message, deep, h) = c.requires.passed in
-    omega (arith, c.requires.some, (row_fits m depth _ c.args.branch c.requires.some (last_branch m depth n _ _ h)).1)
-
-pub take_word-requires-clause-place : goal.take_word-requires-clause-place
-take_word-requires-clause-place g c =
+pub take_word-requires : goal.take_word-requires
+take_word-requires g c =
     let (m, depth, n, message, deep, h) = c.requires.passed in
     let b = last_branch m depth n _ _ h in
-    omega (arith, (row_fits m depth _ c.args.branch c.requires.some b).0, short_segment m c.args.branch.segment message b.exists)
+    let fits = row_fits m depth _ c.args.branch c.requires.some b in record {
+      some = omega (arith, c.requires.some, fits.1);
+      place = omega (arith, fits.0, short_segment m c.args.branch.segment message b.exists);
+    }
 
 pub push-requires : goal.push-requires
 push-requires g c =

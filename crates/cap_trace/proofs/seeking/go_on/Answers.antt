@@ -10,19 +10,14 @@ overflow_sub-top g c =
     let (others, last, parts, some, m, depth, n, message, deep, h) = c.requires in
     omega (arith, c.len-top.ensures.value, length_parts _ others last parts)
 
-pub take_element-row-requires-clause-some : goal.take_element-row-requires-clause-some
-take_element-row-requires-clause-some g c =
-    let (others, last, parts, some, m, depth, n, message, deep, h) = c.requires in
-    let long : c.len-top.result - 1 + 1 ≡ length c.args.branches.now.items = omega (arith, c.len-top.ensures.value, length_parts _ others last parts) in
-    rw (last_read _ c.as_mut_slice.result.now others last (row_branch Struct 0 0 0) _ c.as_mut_slice.ensures.value parts long) some
-
-pub take_element-row-requires-clause-place : goal.take_element-row-requires-clause-place
-take_element-row-requires-clause-place g c =
+pub take_element-row-requires : goal.take_element-row-requires
+take_element-row-requires g c =
     let (others, last, parts, some, m, depth, n, message, deep, h) = c.requires in
     let long : c.len-top.result - 1 + 1 ≡ length c.args.branches.now.items = omega (arith, c.len-top.ensures.value, length_parts _ others last parts) in
     let form = last_read _ c.as_slice.result.now others last (row_branch Struct 0 0 0) _ c.as_slice.ensures.value parts long in
     let row = (element_branch m depth _ last (rw form at c.in-Structs.is) some (last_branch m depth n others last (rw parts at h))).0 in
-    rw (last_read _ c.as_mut_slice.result.now others last (row_branch Struct 0 0 0) _ c.as_mut_slice.ensures.value parts long) (omega (arith, row.inside, short_segment m last.segment message row.exists))
+    rw (last_read _ c.as_mut_slice.result.now others last (row_branch Struct 0 0 0) _ c.as_mut_slice.ensures.value parts long)
+    (record { some = some; place = omega (arith, row.inside, short_segment m last.segment message row.exists) })
 
 pub enter_row-requires : goal.enter_row-requires
 enter_row-requires g c =
@@ -37,20 +32,15 @@ enter_row-requires g c =
     let some_pointers = (element_branch m depth _ last is some (last_branch m depth n others last (rw parts at h))).1 in
     (search rules, (rw row (omega (arith, some_pointers)), (m, depth, n, message, deep, rw (written, after, row) (took_element m depth n others last (rw parts at h) is some))))
 
-pub take_word-requires-clause-some : goal.take_word-requires-clause-some
-take_word-requires-clause-some g c =
-    let (others, last, parts, some, m, depth, n, message, deep, h) = c.requires in
-    let long : c.len-top.result - 1 + 1 ≡ length c.args.branches.now.items = omega (arith, c.len-top.ensures.value, length_parts _ others last parts) in
-    rw (last_read _ c.as_mut_slice-in_default.result.now others last (row_branch Struct 0 0 0) _ c.as_mut_slice-in_default.ensures.value parts long) some
-
-pub take_word-requires-clause-place : goal.take_word-requires-clause-place
-take_word-requires-clause-place g c =
+pub take_word-requires : goal.take_word-requires
+take_word-requires g c =
     let (others, last, parts, some, m, depth, n, message, deep, h) = c.requires in
     let long : c.len-top.result - 1 + 1 ≡ length c.args.branches.now.items = omega (arith, c.len-top.ensures.value, length_parts _ others last parts) in
     let form = last_read _ c.as_slice.result.now others last (row_branch Struct 0 0 0) _ c.as_slice.ensures.value parts long in
     let b = last_branch m depth n others last (rw parts at h) in
     let fits = row_fits m depth _ last (is_row last.form last (rw form at c.in_default.not-Structs) some) b in
-    rw (last_read _ c.as_mut_slice-in_default.result.now others last (row_branch Struct 0 0 0) _ c.as_mut_slice-in_default.ensures.value parts long) (omega (arith, fits.0, short_segment m last.segment message b.exists))
+    rw (last_read _ c.as_mut_slice-in_default.result.now others last (row_branch Struct 0 0 0) _ c.as_mut_slice-in_default.ensures.value parts long)
+    (record { some = some; place = omega (arith, fits.0, short_segment m last.segment message b.exists) })
 
 pub returns-in-Structs : goal.returns-in-Structs
 returns-in-Structs g c = λ m depth n h.
