@@ -67,6 +67,10 @@ impl Branch {
         requires { self.now.taken ≤ self.now.count }
         ensures { result ≡ words_left self.now.form self.now }
     {
+        // Most words that are null are the last of their row.
+        if self.taken == self.count {
+            return 0;
+        }
         match self.form {
             Form::Structs => 0,
             _ => self.count - self.taken,
