@@ -3,7 +3,7 @@ use Rattle.cap_spec.proofs.ProofNames.{List, [], ap, append-nil, append_assoc, a
 use Rattle.cap_spec.proofs.ProofNames.{sym, zero, ℕ, ◌++◌, ◌+◌, ◌-◌, ◌<◌, ◌∙◌, ◌∷◌, ◌≡◌, ◌≤◌, segment_of}
 use Rattle.std.proofs.Math.Nat.{mul-le-mul_right}
 use Rattle.std.proofs.Common.{◌*◌, set, take, take_all}
-use Rattle.std.proofs.lemmas.List.{get_or_push, length-set, set_at, take_at, take_more}
+use Rattle.std.proofs.lemmas.List.{get_or_at, length-set, set_at, take_at, take_more}
 use Rattle.std.specs.List.{refill}
 use Rattle.cap_vet.specs.Trails.{Ahead}
 use Rattle.cap_trace.specs.Branches.{IsCounted, element_row, words_in}
@@ -207,18 +207,40 @@ last_apart branches now i d same long =
     sym (take_all (i + 1) branches (omega (arith, long))) ∙ take_more branches i d (omega (arith, long))
     ∙ ap (λ (u : List Branch). take i branches ++ get_or u i d ∷ []) (sym same)
 
--- The last one is read,
-pub last_read : (branches now others : List Branch) (last d : Branch) (i : ℕ) → now ≡ branches → branches ≡ others ++ last ∷ []
-    → i + 1 ≡ length branches → get_or now i d ≡ last
-last_read branches now others last d i same parts long =
-    ap (λ (u : List Branch). get_or u i d) (same ∙ parts)
-    ∙ get_or_push others last d i (omega (arith, long, length_parts branches others last parts))
+-- One of them is read,
+pub one_read : (branches now others rest : List Branch) (x d : Branch) (i : ℕ) → now ≡ branches → branches ≡ others ++ x ∷ rest
+    → i ≡ length others → get_or now i d ≡ x
+one_read branches now others rest x d i same parts long =
+    ap (λ (u : List Branch). get_or u i d) (same ∙ parts) ∙ get_or_at others x rest d i (sym long)
 
 -- or written.
-pub last_written : (branches now others : List Branch) (last b : Branch) (i : ℕ) → now ≡ branches → branches ≡ others ++ last ∷ []
-    → i + 1 ≡ length branches → refill (length branches) branches (set now i b) ≡ others ++ b ∷ []
-last_written branches now others last b i same parts long =
+pub one_written : (branches now others rest : List Branch) (x b : Branch) (i : ℕ) → now ≡ branches → branches ≡ others ++ x ∷ rest
+    → i ≡ length others → refill (length branches) branches (set now i b) ≡ others ++ b ∷ rest
+one_written branches now others rest x b i same parts long =
     ap (λ (u : List Branch). refill (length branches) branches (set u i b)) same
     ∙ take_at (set branches i b) _ (length branches) (length-set branches i b)
     ∙ ap (λ (u : List Branch). set u i b) parts
-    ∙ set_at others last [] b i (omega (arith, long, length_parts branches others last parts))
+    ∙ set_at others x rest b i (sym long)
+
+-- So is the last one.
+pub last_read : (branches now others : List Branch) (last d : Branch) (i : ℕ) → now ≡ branches → branches ≡ others ++ last ∷ []
+    → i + 1 ≡ length branches → get_or now i d ≡ last
+last_read branches now others last d i same parts long =
+    one_read branches now others [] last d i same parts (omega (arith, long, length_parts branches others last parts))
+
+pub last_written : (branches now others : List Branch) (last b : Branch) (i : ℕ) → now ≡ branches → branches ≡ others ++ last ∷ []
+    → i + 1 ≡ length branches → refill (length branches) branches (set now i b) ≡ others ++ b ∷ []
+last_written branches now others last b i same parts long =
+    one_written branches now others [] last b i same parts (omega (arith, long, length_parts branches others last parts))
+
+-- Branches are those before the last two, and these.
+pub two_apart : (branches now now' : List Branch) (i j : ℕ) (d : Branch) → now ≡ branches → now' ≡ branches
+    → i + 2 ≡ length branches → j + 1 ≡ length branches
+    → branches ≡ take i branches ++ get_or now i d ∷ get_or now' j d ∷ []
+two_apart branches now now' i j d same same' long long' =
+    let next : j ≡ i + 1 = omega (arith, long, long') in
+    last_apart branches now' j d same' long'
+    ∙ ap (λ (u : List Branch). u ++ get_or now' j d ∷ [])
+    (ap (λ (u : ℕ). take u branches) next ∙ take_more branches i d (omega (arith, long)))
+    ∙ append_assoc (take i branches) (get_or branches i d ∷ []) (get_or now' j d ∷ [])
+    ∙ ap (λ (u : List Branch). take i branches ++ get_or u i d ∷ get_or now' j d ∷ []) (sym same)

@@ -193,6 +193,22 @@ took_element m depth n fs f h is some =
       passable = h.passable;
     }
 
+-- Where the row of an element has nothing left, the words of its list are ahead,
+pub before_row : (m : List (List ℕ)) (depth n : ℕ) (fs : List Branch) (f row : Branch) → HasPassed m depth n (fs ++ f ∷ row ∷ [])
+    → row.count ≤ row.taken → HasPassed m depth n (fs ++ f ∷ [])
+before_row m depth n fs f row h none =
+    let parts = sym (append_assoc fs (f ∷ []) (row ∷ [])) in
+    went_up m depth n (fs ++ f ∷ []) row (subst (λ (u : List Branch). HasPassed m depth n u) parts h) none
+
+-- and it comes to the first word of the next element.
+pub took_row : (m : List (List ℕ)) (depth n : ℕ) (fs : List Branch) (f row : Branch) → HasPassed m depth n (fs ++ f ∷ row ∷ [])
+    → f.form ≡ Structs → f.taken < f.count → row.count ≤ row.taken
+    → HasCome m depth (n + 1) ((fs ++ skipped f 1 ∷ []) ++ skipped (element_row f) 1 ∷ []) (place_of (element_row f))
+took_row m depth n fs f row h is some none =
+    let k = before_row m depth n fs f row h none in
+    let b = element_branch m depth (length fs + 1) f is some (last_branch m depth n fs f k) in
+    took_word m depth n (fs ++ skipped f 1 ∷ []) (element_row f) (took_element m depth n fs f k is some) (omega (arith, b.1))
+
 -- The path to where it is has the number that it has come to.
 pub numbered_here : (m : List (List ℕ)) (depth n : ℕ) (fs : List Branch) (here : WordPlace) → HasCome m depth n fs here
     → IsNumbered m (path_of fs) here.segment here.at n

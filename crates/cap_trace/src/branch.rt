@@ -1,7 +1,8 @@
 //! A step on the way down to a pointer word, and the words that come after it.
 
 ghost use Rattle.cap_trace.specs.Branches.{IsCounted, element_row, place_of, row_branch, skipped, step_of, words_left};
-ghost use Rattle.std.specs.Prelude.{◌+◌, ◌<◌, ◌^◌, ◌≡◌, ◌≤◌};
+ghost use Rattle.cap_trace.specs.declared.branch.Form.TheVariants.{Structs};
+ghost use Rattle.std.specs.Prelude.{◌+◌, ◌<◌, ◌^◌, ◌≡◌, ◌≤◌, IsTrue};
 
 use cap_spec::Step;
 
@@ -75,6 +76,14 @@ impl Branch {
             Form::Structs => 0,
             _ => self.count - self.taken,
         }
+    }
+
+    /// Whether it is a list of structs with an element left.
+    #[inline(always)]
+    pub(crate) fn has_element(&self) -> bool
+        ensures { IsTrue result → (self.now.form ≡ Structs) × (self.now.taken < self.now.count) }
+    {
+        matches!(self.form, Form::Structs) && self.taken < self.count
     }
 
     /// Takes the next word of a row.

@@ -7,6 +7,7 @@ ghost use Rattle.cap_trace.specs.Branches.{words_left};
 ghost use Rattle.cap_trace.specs.NearPointers.{IsNearPointer};
 ghost use Rattle.cap_trace.specs.Seeking.{IsLooked, Passes};
 ghost use Rattle.cap_trace.specs.Traces.{HasCome, HasPassed, IsMissing};
+ghost use Rattle.cap_trace.specs.declared.branch.Form.TheVariants.{Structs};
 ghost use Rattle.std.specs.Prelude.{◌+◌, ◌++◌, ◌<◌, ◌≡◌, ◌≤◌, [], ◌∷◌, IfSome, List, None, length, ℕ};
 
 use crate::below::{Below, below_target, look_below};
@@ -352,6 +353,24 @@ fn go_on<const N: usize>(branches: &mut BranchStack<N>, here: &mut WordPlace)
     }
 }
 
+// Goes on to the first word of the next element of a list of structs, if the row of an element has no
+// word left. That row is overwritten: to take it away and append one takes longer.
+#[inline(always)]
+fn next_row<const N: usize>(branches: &mut BranchStack<N>, here: &mut WordPlace)
+    requires { (others : List Branch) × (list row : Branch)
+        × (branches.old.items ≡ others ++ list ∷ row ∷ [])
+        × (list.form ≡ Structs) × (list.taken < list.count) × (row.count ≤ row.taken)
+        × (m : List (List ℕ)) × (depth n : ℕ) × IsMessage m
+        × HasPassed m depth n branches.old.items }
+    ensures { (m : List (List ℕ)) (depth n : ℕ) → HasPassed m depth n branches.old.items →
+        HasCome m depth (n + 1) branches.new.items here.new }
+{
+    let top = branches.len() - 1;
+    let mut row = branches.as_mut_slice()[top - 1].take_element();
+    *here = row.take_word();
+    branches.as_mut_slice()[top] = row;
+}
+
 // The same of all branches. `false` if none has a word left.
 #[inline(always)]
 fn leave<const N: usize>(branches: &mut BranchStack<N>, here: &mut WordPlace) -> bool
@@ -368,6 +387,10 @@ fn leave<const N: usize>(branches: &mut BranchStack<N>, here: &mut WordPlace) ->
         let top = &branches.as_slice()[count - 1];
         if top.taken < top.count {
             go_on(branches, here);
+            return true;
+        }
+        if count > 1 && branches.as_slice()[count - 2].has_element() {
+            next_row(branches, here);
             return true;
         }
         branches.pop();
