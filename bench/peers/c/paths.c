@@ -3,9 +3,10 @@
  *     paths SHAPE COUNT ROUNDS
  *
  * SHAPE is `chain`: structs of one pointer, each to the next one. Or it is `tree`: a binary tree of structs of two
- * pointers. COUNT is the number of structs, at most 4095. The last pointer in preorder leads out of the segment. The line
- * has the least times of both calls over the rounds, in nanoseconds. In each round they are timed in turn. The status is 1
- * where a call doesn't answer what it has to. */
+ * pointers. Or it is `list`: a list of structs, each of a text and a null pointer. COUNT is the number of structs, at
+ * most 2047. The last pointer in preorder leads out of the segment. The line has the least times of both calls over the
+ * rounds, in nanoseconds. In each round they are timed in turn. The status is 1 where a call doesn't answer what it has
+ * to. */
 #define _POSIX_C_SOURCE 199309L
 #include <capvet.h>
 #include <stdio.h>
@@ -13,9 +14,9 @@
 #include <string.h>
 #include <time.h>
 
-#define MOST 4095
+#define MOST 2047
 
-static uint64_t frame[2 + 2 * MOST];
+static uint64_t frame[4 + 3 * MOST];
 static capvet_step steps[CAPVET_MAX_DEPTH];
 
 static double now(void) {
@@ -29,11 +30,8 @@ static uint64_t to_struct(uint64_t at, uint64_t start, uint64_t pointers) {
   return (start - at - 1) << 2 | pointers << 48;
 }
 
-/* Writes the frame. Gives its length in bytes. */
-static size_t write_frame(int is_tree, uint64_t count) {
-  const uint64_t each = is_tree ? 2 : 1, words = 1 + each * count;
-  uint64_t *segment = frame + 1;
-  frame[0] = words << 32;
+/* Writes the words of structs whose pointers lead to structs, `each` of them in one. Gives how many words. */
+static uint64_t write_structs(uint64_t each, uint64_t count, uint64_t *segment) {
   segment[0] = to_struct(0, 1, each);
   for (uint64_t k = 0; k < count; k++) {
     for (uint64_t i = 0; i < each; i++) {
@@ -41,21 +39,45 @@ static size_t write_frame(int is_tree, uint64_t count) {
       segment[at] = child < count ? to_struct(at, 1 + each * child, each) : 0;
     }
   }
-  segment[words - 1] = to_struct(words - 1, words + 1, each);
+  return 1 + each * count;
+}
+
+/* Writes the words of a list of structs: first its pointer, then its tag, the structs, and their texts of one word. */
+static uint64_t write_list(uint64_t count, uint64_t *segment) {
+  const uint64_t first = 3, texts = first + 2 * count;
+  segment[0] = to_struct(0, 1, 1);
+  segment[1] = 1 | (uint64_t)7 << 32 | 2 * count << 35;
+  segment[2] = count << 2 | (uint64_t)2 << 48;
+  for (uint64_t k = 0; k < count; k++) {
+    const uint64_t at = first + 2 * k;
+    segment[at] = 1 | (texts + k - at - 1) << 2 | (uint64_t)2 << 32 | (uint64_t)8 << 35;
+    segment[at + 1] = 0;
+  }
+  return texts + count;
+}
+
+/* Writes the frame. Gives its length in bytes. */
+static size_t write_frame(const char *shape, uint64_t count) {
+  const int is_list = strcmp(shape, "list") == 0;
+  const uint64_t each = strcmp(shape, "tree") == 0 ? 2 : 1;
+  const uint64_t words = is_list ? write_list(count, frame + 1) : write_structs(each, count, frame + 1);
+  const uint64_t last = is_list ? 2 + 2 * count : words - 1;
+  frame[0] = words << 32;
+  frame[1 + last] = to_struct(last, words + 1, 1);
   return 8 * (words + 1);
 }
 
 int main(int argc, char **argv) {
   if (argc != 4 || strtoull(argv[2], NULL, 10) > MOST) return 2;
-  const int is_tree = strcmp(argv[1], "tree") == 0, rounds = atoi(argv[3]);
+  const int rounds = atoi(argv[3]);
   const uint64_t count = strtoull(argv[2], NULL, 10);
-  const size_t length = write_frame(is_tree, count);
+  const size_t length = write_frame(argv[1], count);
   const int calls = (int)(400000 / length) + 1;
   capvet_limits limits = CAPVET_LIMITS_INIT;
   capvet_report report;
   double vet = 1e18, path = 1e18;
-  /* (the root is a level, and the pointer that is named would be one more) */
-  if (!is_tree && count >= limits.depth) limits.depth = CAPVET_MAX_DEPTH;
+  /* (only a chain has more levels than the default limit) */
+  if (strcmp(argv[1], "chain") == 0 && count > limits.depth) limits.depth = CAPVET_MAX_DEPTH;
   for (int round = 0; round < rounds; round++) {
     const double begin = now();
     for (int call = 0; call < calls; call++) {
