@@ -49,14 +49,16 @@ def externs(root, crate):
 
 
 def compile_crate(root, crate, out, scratch, *words):
-    """Builds the program `capvet` or the library `capvet_c`, whose libraries are proved below root. What is proved here is
-    taken from what `rt` kept there, or is kept in `scratch` for the next target. Whether it is built."""
+    """Builds the program `capvet` or the library `capvet_c`, whose libraries are proved below root. What is proved here begins
+    with a copy of what `rt` kept there, and is kept in `scratch` for the next target. Whether it is built."""
     kept = root / "crates" / crate / "out/incremental"
+    if kept.is_dir() and not (scratch / crate).is_dir():
+        shutil.copytree(kept, scratch / crate)
     kind = [] if crate == "capvet" else ["--crate-type", "staticlib"]
     source = "src/main.rt" if crate == "capvet" else "src/lib.rt"
     command = [KIT / "bin/rattle", "build", "--crate-name", crate, source, *kind, "--links", f"{crate}=", *externs(root, crate),
                "--antt-project", KIT / "rattle/logic/antt-project.json", "--logic-built", KIT / "logic_built",
-               "--incremental", kept if kept.is_dir() else scratch / crate, "--toolchain", KIT / "toolchain", "--jobs", "4", *words, "-o", out]
+               "--incremental", scratch / crate, "--toolchain", KIT / "toolchain", "--jobs", "4", *words, "-o", out]
     return subprocess.run(command, cwd=root / "crates" / crate).returncode == 0
 
 
@@ -125,16 +127,19 @@ def build(names, root, scratch):
 def main(names):
     if not names or not set(names) <= set(TARGETS):
         sys.exit(__doc__)
-    # (scripts that run side by side build a target once)
-    with open(BUILT / "targets.lock", "w") as lock:
-        fcntl.flock(lock, fcntl.LOCK_EX)
-        expected = [name for name in names if not is_kept(name)]
-        for name in expected:
+    for name in names:
+        # (scripts that run side by side build a target once)
+        with open(BUILT / f"{name}.lock", "w") as lock:
+            fcntl.flock(lock, fcntl.LOCK_EX)
+            if is_kept(name):
+                continue
             for tool, package in lacking(name).items():
                 print(f"targets: {name} needs {tool}: install {package}", file=sys.stderr)
                 return 2
-        with tempfile.TemporaryDirectory(prefix="capvet-targets-") as folder:
-            return 0 if build(expected, TOP, Path(folder)) else 1
+            with tempfile.TemporaryDirectory(prefix="capvet-targets-") as folder:
+                if not build([name], TOP, Path(folder)):
+                    return 1
+    return 0
 
 
 if __name__ == "__main__":

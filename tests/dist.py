@@ -50,6 +50,12 @@ def sum_of(path):
     return hashlib.sha256(path.read_bytes()).hexdigest()
 
 
+def has_targets():
+    """Whether what has the tools is built for other machines. A clone can't build it, since nothing is proved there."""
+    names = [name for name in targets.TARGETS if not targets.lacking(name)]
+    return not names or targets.main(names) == 0
+
+
 def clone(folder, with_guards=True):
     """A repository of the files of this one, with what is built, and one commit."""
     names = subprocess.run(["git", "ls-files", "-z", "-co", "--exclude-standard"], cwd=TOP, check=True, stdout=subprocess.PIPE,
@@ -299,6 +305,7 @@ def image(root, folder):
 def main():
     if missing("the packages", "git", "make", "rt", "dpkg-deb", "dpkg-scanpackages"):
         return ended()
+    compare("the builds for other machines", True, has_targets())
     with tempfile.TemporaryDirectory(ignore_cleanup_errors=True) as scratch:
         folder = Path(scratch)
         first, second = folder / "one", folder / "some/other place"

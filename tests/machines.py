@@ -26,6 +26,7 @@ import struct
 import subprocess
 import sys
 import tempfile
+from concurrent.futures import ThreadPoolExecutor
 from http.server import BaseHTTPRequestHandler, ThreadingHTTPServer
 from pathlib import Path
 from threading import Event, Thread
@@ -289,11 +290,13 @@ def test_programs(folder, program):
 
 
 def build():
-    """Builds each target whose tools are there."""
-    for name, tool in (("static", "gcc"), ("aarch64", "aarch64-linux-gnu-gcc"), ("wasm", "wasm-opt")):
-        if not missing(f"the target {name}", tool):
-            text, status = run([sys.executable, TOP / "packaging/targets.py", name])
-            expect(f"the target {name}", status == 0, text)
+    """Builds each target whose tools are there, side by side."""
+    names = [name for name, tool in (("static", "gcc"), ("aarch64", "aarch64-linux-gnu-gcc"), ("wasm", "wasm-opt"))
+             if not missing(f"the target {name}", tool)]
+    with ThreadPoolExecutor(len(names) or 1) as beside:
+        built = list(beside.map(lambda name: run([sys.executable, TOP / "packaging/targets.py", name]), names))
+    for name, (text, status) in zip(names, built):
+        expect(f"the target {name}", status == 0, text)
 
 
 def main():

@@ -1,6 +1,5 @@
 #!/usr/bin/env python3
-"""Proves the crates, and leaves the proved program and the proved archive in build/. Unless it proves the code alone, it also
-builds for the other machines whose tools are there (packaging/targets.py).
+"""Proves the crates, and leaves the proved program and the proved archive in build/.
 
     prove.py                     each library and the program; the tests in Rattle run, the layout and HANDLES are checked
     prove.py --code              only the crates that the program and the archive are built from
@@ -11,7 +10,10 @@ was made, `rt` isn't run at all. The tests in Rattle run beside the proofs, with
 
 With --edits `rt ci` does the work on a copy of the tree, and proves the tests too. Then tests/edits.py tries the edits over what
 was proved, since `rt ci` doesn't look at why an edit is refused. Both take from earlier runs on this machine what has read the
-same, and with --anew nothing. The last line of the output is 'N passed, M failed'. The status is 1 where something failed, and then build/ stays as it was.
+same, and with --anew nothing. While the copy is there it also builds for the other machines whose tools are there
+(packaging/targets.py). Without --edits the scripts that need these builds make them.
+
+The last line of the output is 'N passed, M failed'. The status is 1 where something failed, and then build/ stays as it was.
 """
 import fcntl
 import hashlib
@@ -272,12 +274,6 @@ def kept():
     return int(passed) if found == checksum() else None
 
 
-def has_targets():
-    """Builds for other machines over what is proved here, as far as this machine has the tools, where build/ lacks them."""
-    names = [name for name in targets.TARGETS if not targets.lacking(name)]
-    return not names or targets.main(names) == 0
-
-
 def main(words):
     sys.stdout.reconfigure(line_buffering=True)
     ways = {(): prove_all, ("--code",): prove_code, ("--edits",): lambda: prove_and_edit([]),
@@ -292,7 +288,7 @@ def main(words):
         passed = ways[tuple(words)]()
         if passed is not None and "--edits" not in words:
             take(TOP)
-    if passed is None or words == [] and not has_targets():
+    if passed is None:
         print("0 passed, 1 failed")
         return 1
     if words != ["--code"]:
