@@ -55,7 +55,7 @@ def prove_above(name):
     """Proves the crates that use it, and runs their tests."""
     above = prove.above(name)
     tests = [it for it in above if prove.has_tests(it)]
-    return prove.prove_each([it for it in above if it not in tests], tests, rt)
+    return prove.prove_each([it for it in above if it not in (name, *tests)], tests, rt)
 
 
 def changed():
@@ -110,6 +110,9 @@ def say_bad(line):
 
 def prove_above_and_edit(name):
     """Proves the crates above, and beside that tries the edits. The crates are one after the other, so they leave cores."""
+    # (first the library of this crate, since the edits begin with a copy of what its proof keeps)
+    if not prove.has_tests(name) and not prove.prove_each([name], (), rt):
+        return False
     with ThreadPoolExecutor(1) as beside:
         refused = beside.submit(try_edits, name)
         is_proved = prove_above(name)
