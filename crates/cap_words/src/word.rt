@@ -24,12 +24,8 @@ pub fn bits(word: u64, low: u32, count: u32) -> u64
 pub fn signed_offset(word: u64) -> i64
     ensures { result ≡ signed_offset_of word }
 {
-    let offset = bits(word, 2, 30) as i64;
-    if offset < 1 << 29 {
-        offset
-    } else {
-        offset - (1 << 30)
-    }
+    // This takes no comparison, on whose result the next word of a chain would wait.
+    bits(word.wrapping_add(1 << 31), 2, 30) as i64 - (1 << 29)
 }
 
 /// The word that eight bytes encode, the lowest byte first.
