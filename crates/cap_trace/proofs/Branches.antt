@@ -7,7 +7,7 @@ use Rattle.std.proofs.lemmas.List.{get_or_at, length-set, set_at, take_at, take_
 use Rattle.std.specs.List.{refill}
 use Rattle.cap_vet.specs.Trails.{Ahead}
 use Rattle.cap_trace.specs.Branches.{IsCounted, element_row, words_in}
-use Rattle.cap_trace.specs.TraceNames.{Step, AreBranches, IsBranch, path_of, place_of, rest_from, rest_of, skipped, step_of}
+use Rattle.cap_trace.specs.TraceNames.{Step, AreBranches, IsBranch, IsRow, path_of, place_of, rest_from, rest_of, skipped, step_of}
 use Rattle.cap_trace.specs.TraceNames.{words_left, Branch, Form, Pointers, Struct, Structs, word_ahead}
 
 -- the path over one more step
@@ -89,13 +89,14 @@ row_words Structs s b n t d p some base level = absurd (omega (arith, some))
 -- So it is of those of the last branch.
 pub word_taken : (fs : List Branch) (f : Branch) → 0 < words_left f.form f
     → rest_from [] 1 (fs ++ f ∷ [])
-    ≡ word_ahead (fs ++ skipped f 1 ∷ []) (place_of f) ∷ rest_from [] 1 (fs ++ skipped f 1 ∷ [])
+    ≡ word_ahead (fs ++ skipped f 1 ∷ []) (place_of (skipped f 1)) ∷ rest_from [] 1 (fs ++ skipped f 1 ∷ [])
 word_taken fs f some =
+    let at : f.start + (f.taken + 1) - 1 ≡ f.start + f.taken = omega arith in
     let long : length (fs ++ skipped f 1 ∷ []) ≡ length fs + 1 = length-append fs (skipped f 1 ∷ []) in
     rest_append [] 1 fs (f ∷ [])
     ∙ ap (λ (u : List Ahead). u ++ rest_from [] 1 fs)
     (row_words f.form f.segment f.start f.count f.taken f.data_words f.pointers some (path_of fs) (length fs + 1))
-    ∙ rw (rest_append [] 1 fs (skipped f 1 ∷ []), path_with fs (skipped f 1), long) refl
+    ∙ rw (at, rest_append [] 1 fs (skipped f 1 ∷ []), path_with fs (skipped f 1), long) refl
 
 -- The words of elements are those of the next one and then of the others.
 element_words : (s b n t d p : ℕ) → t < n → (base : List Step) (level : ℕ)
@@ -161,16 +162,17 @@ row_fits m depth level f some h = by_form f.form some h.inside
     by_form Pointers some h = (h, refl)
     by_form Structs some h = absurd (omega (arith, some))
 
-pub taken_within : (form : Form) (f : Branch) → IsCounted form f → f.taken ≤ f.count
-taken_within Struct f h = h.0
-taken_within Pointers f h = h
-taken_within Structs f h = h.0
+-- What isn't a list of structs is a row,
+pub is_row : (form : Form) → (form ≡ Structs → ⊥) → IsRow form
+is_row Struct other = tt
+is_row Pointers other = tt
+is_row Structs other = absurd (other refl)
 
--- What isn't a list of structs is a row.
-pub is_row : (form : Form) (f : Branch) → (form ≡ Structs → ⊥) → f.taken < f.count → 0 < words_left form f
-is_row Struct f other some = omega (arith, some)
-is_row Pointers f other some = omega (arith, some)
-is_row Structs f other some = absurd (other refl)
+-- and what is left of a row are words.
+pub row_left : (form : Form) (f : Branch) → IsRow form → f.taken < f.count → 0 < words_left form f
+row_left Struct f row some = omega (arith, some)
+row_left Pointers f row some = omega (arith, some)
+row_left Structs f row some = absurd row
 
 -- So do those of the next element, and its pointers are a branch.
 one_of_many : (t n x : ℕ) → t < n → t * x + x ≤ n * x
@@ -191,10 +193,6 @@ element_branch m depth level f is some h =
       },
       counted.1,
     )
-
-pub none_left : (branches : List Branch) → length branches ≡ 0 → branches ≡ []
-none_left [] none = refl
-none_left (b ∷ branches) none = absurd (omega (arith, none))
 
 pub length_parts : (branches others : List Branch) (last : Branch) → branches ≡ others ++ last ∷ []
     → length branches ≡ length others + 1
@@ -222,25 +220,27 @@ one_written branches now others rest x b i same parts long =
     ∙ ap (λ (u : List Branch). set u i b) parts
     ∙ set_at others x rest b i (sym long)
 
--- So is the last one.
-pub last_read : (branches now others : List Branch) (last d : Branch) (i : ℕ) → now ≡ branches → branches ≡ others ++ last ∷ []
-    → i + 1 ≡ length branches → get_or now i d ≡ last
-last_read branches now others last d i same parts long =
-    one_read branches now others [] last d i same parts (omega (arith, long, length_parts branches others last parts))
+-- The last two are those that are read, and before them are others.
+pub length_two : (branches others : List Branch) (x y : Branch) → branches ≡ others ++ x ∷ y ∷ []
+    → length branches ≡ length others + 2
+length_two branches others x y parts = ap (λ (u : List Branch). length u) parts ∙ length-append others (x ∷ y ∷ [])
 
-pub last_written : (branches now others : List Branch) (last b : Branch) (i : ℕ) → now ≡ branches → branches ≡ others ++ last ∷ []
-    → i + 1 ≡ length branches → refill (length branches) branches (set now i b) ≡ others ++ b ∷ []
-last_written branches now others last b i same parts long =
-    one_written branches now others [] last b i same parts (omega (arith, long, length_parts branches others last parts))
+pub last_two : (branches now : List Branch) (i : ℕ) (d : Branch) → now ≡ branches → i + 2 ≡ length branches
+    → branches ≡ take i branches ++ get_or now i d ∷ get_or now (i + 1) d ∷ []
+last_two branches now i d same long =
+    last_apart branches now (i + 1) d same (omega (arith, long))
+    ∙ ap (λ (u : List Branch). u ++ get_or now (i + 1) d ∷ []) (take_more branches i d (omega (arith, long)))
+    ∙ append_assoc (take i branches) (get_or branches i d ∷ []) (get_or now (i + 1) d ∷ [])
+    ∙ ap (λ (u : List Branch). take i branches ++ get_or u i d ∷ get_or now (i + 1) d ∷ []) (sym same)
 
--- Branches are those before the last two, and these.
-pub two_apart : (branches now now' : List Branch) (i j : ℕ) (d : Branch) → now ≡ branches → now' ≡ branches
-    → i + 2 ≡ length branches → j + 1 ≡ length branches
-    → branches ≡ take i branches ++ get_or now i d ∷ get_or now' j d ∷ []
-two_apart branches now now' i j d same same' long long' =
-    let next : j ≡ i + 1 = omega (arith, long, long') in
-    last_apart branches now' j d same' long'
-    ∙ ap (λ (u : List Branch). u ++ get_or now' j d ∷ [])
-    (ap (λ (u : ℕ). take u branches) next ∙ take_more branches i d (omega (arith, long)))
-    ∙ append_assoc (take i branches) (get_or branches i d ∷ []) (get_or now' j d ∷ [])
-    ∙ ap (λ (u : List Branch). take i branches ++ get_or u i d ∷ get_or now' j d ∷ []) (sym same)
+-- What is left without the last one.
+pub all_but_last : (branches others : List Branch) (last : Branch) → branches ≡ others ++ last ∷ []
+    → take (length branches - 1) branches ≡ others
+all_but_last branches others last parts =
+    ap (λ (u : List Branch). take (length branches - 1) u) parts
+    ∙ take_at others (last ∷ []) _ (omega (arith, length_parts branches others last parts))
+
+pub but_last_two : (branches others : List Branch) (x y : Branch) → branches ≡ others ++ x ∷ y ∷ []
+    → take (length branches - 1) branches ≡ others ++ x ∷ []
+but_last_two branches others x y parts =
+    all_but_last branches (others ++ x ∷ []) y (parts ∙ sym (append_assoc others (x ∷ []) (y ∷ [])))

@@ -1,17 +1,16 @@
 -- A search comes to the pointer words of a message one after the other.
-use Rattle.cap_spec.proofs.Lemmas.{HasWord-inside, short_segment, Before-asymmetric, Before-irreflexive, one_reached, one_of_last}
+use Rattle.cap_spec.proofs.Lemmas.{HasWord-inside, Before-asymmetric, Before-irreflexive, one_reached, one_of_last}
 use Rattle.cap_spec.proofs.ProofNames.{List, None, Some, [], append_assoc, arith, inl, inr, length, length-append, refl, subst, sym, ℕ}
 use Rattle.cap_spec.proofs.ProofNames.{◌++◌, ◌+◌, ◌<◌, ◌∷◌, ◌≡◌, ◌≤◌, ◌⊎◌, IsOneOf, segment_of, Before, IsNumbered}
-use Rattle.cap_spec.proofs.ProofNames.{IsMessage, IsTour, Reaches, ◌^◌}
-use Rattle.std.proofs.Common.{get_or, take, ◌-◌}
+use Rattle.cap_spec.proofs.ProofNames.{IsTour, Reaches}
 use Rattle.std.proofs.lemmas.List.{length-map}
 use Rattle.cap_vet.specs.Trails.{Ahead, IsTrail}
 use Rattle.cap_vet.proofs.OneTrail.{root_trail}
 use Rattle.cap_trace.specs.Branches.{element_row}
 use Rattle.cap_trace.specs.TraceNames.{Step, AreBranches, path_of, place_of, rest_from, skipped, step_of, words_left, IsTraceable}
 use Rattle.cap_trace.specs.TraceNames.{PassesAt, HasCome, HasPassed, IsBlockedAt, IsPut, ReportsPath, word_ahead, Branch, GoesBelow, IsBranch}
-use Rattle.cap_trace.specs.TraceNames.{Form, Object, Pointers, Struct, Structs, WordPlace}
-use Rattle.cap_trace.proofs.Branches.{branch_after, branches_join, element_branch, branches_split, element_taken, few_branches, last_apart, nothing_left}
+use Rattle.cap_trace.specs.TraceNames.{Object, Structs, WordPlace}
+use Rattle.cap_trace.proofs.Branches.{branch_after, branches_join, element_branch, branches_split, element_taken, few_branches, nothing_left}
 use Rattle.cap_trace.proofs.Branches.{rest_append, row_fits, word_taken}
 use Rattle.cap_trace.proofs.Numbering.{number_order}
 use Rattle.cap_trace.proofs.Onward.{next_tour, root_tour, up_to_last}
@@ -85,15 +84,10 @@ passed_into m depth n fs f here h k =
     (k.2 h.seen (path_of fs) (rest_from [] 1 fs) h.trail))
     (branches_join m depth 1 fs (f ∷ []) h.stack (k.1.0, tt))
 
--- The last of these is a branch, and space is left for it.
+-- The last of these is a branch.
 pub last_branch : (m : List (List ℕ)) (depth n : ℕ) (fs : List Branch) (f : Branch) → HasPassed m depth n (fs ++ f ∷ [])
     → IsBranch m depth (length fs + 1) f
 last_branch m depth n fs f h = (branches_split m depth 1 fs (f ∷ []) h.stack).1.0
-
-pub has_space : (m : List (List ℕ)) (depth n : ℕ) (fs : List Branch) (f : Branch) → HasPassed m depth n (fs ++ f ∷ [])
-    → length fs < depth
-has_space m depth n fs f h =
-    omega (arith, few_branches m depth (fs ++ f ∷ []) h.stack, length-append fs (f ∷ []))
 
 -- Without one that has nothing left, the same words are ahead.
 pub went_up : (m : List (List ℕ)) (depth n : ℕ) (fs : List Branch) (f : Branch) → HasPassed m depth n (fs ++ f ∷ [])
@@ -111,7 +105,7 @@ went_up m depth n fs f h none = record {
 
 -- It comes to the next word of the last row.
 pub took_word : (m : List (List ℕ)) (depth n : ℕ) (fs : List Branch) (f : Branch) → HasPassed m depth n (fs ++ f ∷ [])
-    → 0 < words_left f.form f → HasCome m depth (n + 1) (fs ++ skipped f 1 ∷ []) (place_of f)
+    → 0 < words_left f.form f → HasCome m depth (n + 1) (fs ++ skipped f 1 ∷ []) (place_of (skipped f 1))
 took_word m depth n fs f h some =
     let gs = fs ++ skipped f 1 ∷ [] in
     let b = branches_split m depth 1 fs (f ∷ []) h.stack in
@@ -119,7 +113,7 @@ took_word m depth n fs f h some =
     let less : f.taken < f.count = omega (arith, some, fits.1) in
     let trail = subst (λ (u : List Ahead). IsTrail m (h.path ∷ h.seen) u) (word_taken fs f some) h.trail in
     let tour : IsTour m (path_of gs) (h.tour ++ path_of gs ∷ []) =
-    next_tour m h.path h.seen (word_ahead gs (place_of f)) (rest_from [] 1 gs) h.tour trail h.is_tour in record {
+    next_tour m h.path h.seen (word_ahead gs (place_of (skipped f 1))) (rest_from [] 1 gs) h.tour trail h.is_tour in record {
       seen = h.path ∷ h.seen;
       trail = trail;
       tour = h.tour ++ path_of gs ∷ [];
@@ -134,46 +128,6 @@ took_word m depth n fs f h some =
     before : (p q : List Step) → Before q p → (q ≡ p) ⊎ IsOneOf q h.tour → (q ≡ h.path) ⊎ Before q h.path
     before p q b (inl e) = absurd (Before-irreflexive q (subst (λ (u : List Step). Before q u) (sym e) b))
     before p q b (inr i) = h.is_tour.none_after q i
-
--- After k words of that row it comes to the next one.
-pub came_further : (m : List (List ℕ)) (depth n : ℕ) (fs : List Branch) (f : Branch) (k : ℕ) → k < words_left f.form f
-    → HasPassed m depth (n + k) (fs ++ skipped f k ∷ [])
-    → HasCome m depth (n + (k + 1)) (fs ++ skipped f (k + 1) ∷ []) (record { segment = f.segment; at = f.start + f.taken + k })
-came_further m depth n fs f k some h =
-    let number : n + (k + 1) ≡ n + k + 1 = omega arith in
-    let next : f.start + f.taken + k ≡ f.start + (f.taken + k) = omega arith in
-    let taken : f.taken + (k + 1) ≡ f.taken + k + 1 = omega arith in
-    rw (number, next, taken) (took_word m depth (n + k) fs (skipped f k) h (still_left f.form f some))
-  where
-    still_left : (form : Form) (f : Branch) → k < words_left form f → 0 < words_left form (skipped f k)
-    still_left Struct f less = omega (arith, less)
-    still_left Pointers f less = omega (arith, less)
-    still_left Structs f less = absurd (omega (arith, less))
-
-pub came_first : (m : List (List ℕ)) (depth n : ℕ) (fs : List Branch) (f : Branch) → 0 < words_left f.form f
-    → HasPassed m depth n (fs ++ f ∷ [])
-    → HasCome m depth (n + 1) (fs ++ skipped f 1 ∷ []) (record { segment = f.segment; at = f.start + f.taken + 0 })
-came_first m depth n fs f some h =
-    let place : f.start + f.taken + 0 ≡ f.start + f.taken = omega arith in rw place (took_word m depth n fs f h some)
-
--- The last of the branches that the search has is one.
-pub row_at : (m : List (List ℕ)) (depth n : ℕ) (branches now : List Branch) (here : WordPlace) (i : ℕ) (d : Branch)
-    → HasCome m depth n branches here → now ≡ branches → i + 1 ≡ length branches
-    → IsBranch m depth (length (take i branches) + 1) (get_or now i d)
-row_at m depth n branches now here i d h same long =
-    let parts = subst (λ (u : List Branch). AreBranches m depth 1 u) (last_apart branches now i d same long) h.stack in
-    (branches_split m depth 1 (take i branches) (get_or now i d ∷ []) parts).1.0
-
--- Its words lie inside their segment.
-pub row_here : (m : List (List ℕ)) (depth n : ℕ) (branches now : List Branch) (here : WordPlace) (i : ℕ) (d : Branch) → IsMessage m
-    → HasCome m depth n branches here → now ≡ branches → i + 1 ≡ length branches
-    → 0 < words_left (get_or now i d).form (get_or now i d)
-    → ((get_or now i d).start + (get_or now i d).count < 2 ^ 32)
-    × (words_left (get_or now i d).form (get_or now i d) ≡ (get_or now i d).count - (get_or now i d).taken)
-row_here m depth n branches now here i d message h same long some =
-    let b = row_at m depth n branches now here i d h same long in
-    let fits = row_fits m depth (length (take i branches) + 1) (get_or now i d) some b in
-    (omega (arith, fits.0, short_segment m (get_or now i d).segment message b.exists), fits.1)
 
 -- Of a list of structs it takes the next element first.
 pub took_element : (m : List (List ℕ)) (depth n : ℕ) (fs : List Branch) (f : Branch) → HasPassed m depth n (fs ++ f ∷ [])
@@ -192,22 +146,6 @@ took_element m depth n fs f h is some =
           (branch_after m depth (length fs + 1) f some b.1.0, (row.0, tt)));
       passable = h.passable;
     }
-
--- Where the row of an element has nothing left, the words of its list are ahead,
-pub before_row : (m : List (List ℕ)) (depth n : ℕ) (fs : List Branch) (f row : Branch) → HasPassed m depth n (fs ++ f ∷ row ∷ [])
-    → row.count ≤ row.taken → HasPassed m depth n (fs ++ f ∷ [])
-before_row m depth n fs f row h none =
-    let parts = sym (append_assoc fs (f ∷ []) (row ∷ [])) in
-    went_up m depth n (fs ++ f ∷ []) row (subst (λ (u : List Branch). HasPassed m depth n u) parts h) none
-
--- and it comes to the first word of the next element.
-pub took_row : (m : List (List ℕ)) (depth n : ℕ) (fs : List Branch) (f row : Branch) → HasPassed m depth n (fs ++ f ∷ row ∷ [])
-    → f.form ≡ Structs → f.taken < f.count → row.count ≤ row.taken
-    → HasCome m depth (n + 1) ((fs ++ skipped f 1 ∷ []) ++ skipped (element_row f) 1 ∷ []) (place_of (element_row f))
-took_row m depth n fs f row h is some none =
-    let k = before_row m depth n fs f row h none in
-    let b = element_branch m depth (length fs + 1) f is some (last_branch m depth n fs f k) in
-    took_word m depth n (fs ++ skipped f 1 ∷ []) (element_row f) (took_element m depth n fs f k is some) (omega (arith, b.1))
 
 -- The path to where it is has the number that it has come to.
 pub numbered_here : (m : List (List ℕ)) (depth n : ℕ) (fs : List Branch) (here : WordPlace) → HasCome m depth n fs here

@@ -8,5 +8,6 @@ pub mod Numbering
 mod Objects
 mod Onward
 mod RowBranches
+mod Searching
 pub mod Sharing
 mod Traceable

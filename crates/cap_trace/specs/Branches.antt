@@ -1,10 +1,11 @@
 -- The steps of a search down to a pointer word, and the pointer words that come after it (profile).
-use Rattle.std.specs.Prelude.{List, [], length, map, ℕ, ⊤, ◌*◌, ◌++◌, ◌+◌, ◌-◌, ◌<◌, ◌^◌, ◌∷◌, ◌≤◌}
+use Rattle.std.specs.Prelude.{List, [], length, map, ℕ, ⊤, ◌*◌, ◌++◌, ◌+◌, ◌-◌, ◌<◌, ◌^◌, ◌∷◌, ◌≡◌, ◌≤◌}
 use Rattle.cap_spec.specs.Messages.{segment_of}
 use Rattle.cap_spec.specs.declared.Step.{Step}
 use Rattle.cap_spec.specs.declared.Step.TheVariants.{Item, Ptr}
 use Rattle.cap_vet.specs.Trails.{Ahead, element_rows, row}
 use Rattle.cap_trace.specs.declared.branch.Branch.{Branch}
+use Rattle.cap_trace.specs.declared.branch.Cursor.{Cursor}
 use Rattle.cap_trace.specs.declared.branch.Form.{Form}
 use Rattle.cap_trace.specs.declared.branch.Form.TheVariants.{Pointers, Struct, Structs}
 use Rattle.cap_trace.specs.declared.branch.WordPlace.{WordPlace}
@@ -54,6 +55,12 @@ words_in Struct f = f.count
 words_in Pointers f = f.count
 words_in Structs f = f.count * (f.data_words + f.pointers)
 
+-- It is a row of pointers.
+abbrev pub IsRow : Form → Type 0
+IsRow Struct = ⊤
+IsRow Pointers = ⊤
+IsRow Structs = ⊥
+
 -- The number of a struct's pointer has 16 bits. Elements have pointers.
 abbrev pub IsCounted : Form → Branch → Type 0
 IsCounted Struct f = (f.taken ≤ f.count) × (f.count ≤ 2 ^ 16)
@@ -79,9 +86,27 @@ AreBranches m depth level [] = ⊤
 AreBranches m depth level (f ∷ branches) =
     IsBranch m depth level f × AreBranches m depth (level + 1) branches
 
--- the next word of a row
+-- the last word of a row that was taken
 abbrev pub place_of : Branch → WordPlace
-place_of f = record { segment = f.segment; at = f.start + f.taken }
+place_of f = record { segment = f.segment; at = f.start + f.taken - 1 }
+
+-- the branch with so many left
+abbrev pub settled : Branch → ℕ → Branch
+settled f left = record f { taken = f.count - left }
+
+-- the next word of a row
+abbrev pub next_word : Branch → Cursor
+next_word f = record {
+  place = record { segment = f.segment; at = f.start + f.taken };
+  left = f.count - f.taken - 1;
+}
+
+-- the word n further on in a row
+abbrev pub onward : Cursor → ℕ → Cursor
+onward here n = record {
+  place = record { segment = here.place.segment; at = here.place.at + n };
+  left = here.left - n;
+}
 
 -- the branch after n more are taken
 abbrev pub skipped : Branch → ℕ → Branch
@@ -96,3 +121,12 @@ row_branch form s start n =
 abbrev pub element_row : Branch → Branch
 element_row f =
     row_branch Struct f.segment (f.start + f.taken * (f.data_words + f.pointers) + f.data_words) f.pointers
+
+-- the root word, as a row that has been taken
+abbrev pub root_row : Branch
+root_row = skipped (row_branch Struct 0 0 1) 1
+
+-- The root word comes first.
+abbrev pub IsRooted : List Branch → Type 0
+IsRooted [] = ⊤
+IsRooted (f ∷ branches) = f ≡ root_row

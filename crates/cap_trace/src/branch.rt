@@ -1,8 +1,7 @@
 //! A step on the way down to a pointer word, and the words that come after it.
 
-ghost use Rattle.cap_trace.specs.Branches.{IsCounted, element_row, place_of, row_branch, skipped, step_of, words_left};
-ghost use Rattle.cap_trace.specs.declared.branch.Form.TheVariants.{Structs};
-ghost use Rattle.std.specs.Prelude.{◌+◌, ◌<◌, ◌^◌, ◌≡◌, ◌≤◌, IsTrue};
+ghost use Rattle.cap_trace.specs.Branches.{IsCounted, element_row, next_word, root_row, row_branch, skipped, step_of};
+ghost use Rattle.std.specs.Prelude.{◌+◌, ◌<◌, ◌^◌, ◌≡◌, ◌≤◌};
 
 use cap_spec::Step;
 
@@ -23,6 +22,13 @@ pub(crate) enum Form {
 pub(crate) struct WordPlace {
     pub(crate) segment: u32,
     pub(crate) at: u32,
+}
+
+/// The pointer word that a search is at, and how many words of its row come after it.
+#[derive(Clone, Copy, Drop)]
+pub(crate) struct Cursor {
+    pub(crate) place: WordPlace,
+    pub(crate) left: u32,
 }
 
 /// The pointers of an object, or the elements of a list of structs, in their order. The last one that
@@ -62,44 +68,31 @@ impl Branch {
         }
     }
 
-    /// How many words are left, if it is a row.
+    /// The root word, as a row that has been taken.
     #[inline(always)]
-    pub(crate) fn words_left(&self) -> u32
-        requires { self.now.taken ≤ self.now.count }
-        ensures { result ≡ words_left self.now.form self.now }
+    pub(crate) fn root() -> Branch
+        ensures { result ≡ root_row }
     {
-        // Most words that are null are the last of their row.
-        if self.taken == self.count {
-            return 0;
-        }
-        match self.form {
-            Form::Structs => 0,
-            _ => self.count - self.taken,
+        Branch {
+            taken: 1,
+            ..Branch::row(Form::Struct, 0, 0, 1)
         }
     }
 
-    /// Whether it is a list of structs with an element left.
+    /// The next word of a row.
     #[inline(always)]
-    pub(crate) fn has_element(&self) -> bool
-        ensures { IsTrue result → (self.now.form ≡ Structs) × (self.now.taken < self.now.count) }
+    pub(crate) fn next_word(&self) -> Cursor
+        requires some { self.now.taken < self.now.count }
+        requires place { self.now.start + self.now.count < 2 ^ 32 }
+        ensures { result ≡ next_word self.now }
     {
-        matches!(self.form, Form::Structs) && self.taken < self.count
-    }
-
-    /// Takes the next word of a row.
-    #[inline(always)]
-    pub(crate) fn take_word(&mut self) -> WordPlace
-        requires some { self.old.taken < self.old.count }
-        requires place { self.old.start + self.old.count < 2 ^ 32 }
-        ensures place { result ≡ place_of self.old }
-        ensures after { self.new ≡ skipped self.old 1 }
-    {
-        let place = WordPlace {
-            segment: u32::from(self.segment),
-            at: self.start + self.taken,
-        };
-        self.taken += 1;
-        place
+        Cursor {
+            place: WordPlace {
+                segment: u32::from(self.segment),
+                at: self.start + self.taken,
+            },
+            left: self.count - self.taken - 1,
+        }
     }
 
     /// Takes the next element, and gives the row of its pointers.

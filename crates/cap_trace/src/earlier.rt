@@ -10,7 +10,7 @@ ghost use Rattle.cap_vet.specs.Limits.{depth_of};
 ghost use Rattle.std.specs.Prelude.{◌≡◌, ◌≤◌, IfSome, List, None, Some, ℕ};
 
 use crate::branch::WordPlace;
-use crate::seeking::{BranchStack, pass, seek};
+use crate::seeking::{BranchStack, pass, seek, start};
 use crate::used_words::{UsedWords, uses_one};
 use cap_frame::Segments;
 use cap_vet::Limits;
@@ -26,8 +26,8 @@ pub struct EarlierPointer {
     pub pointers: u64,
 }
 
-/// The most steps to a pointer word.
-const BRANCHES: usize = 256;
+/// The root word, and the most steps to a pointer word.
+const BRANCHES: usize = 257;
 
 /// The first pointer in preorder that uses a word which the pointer word of this number uses too.
 /// `number` may be the `pointers` of an overlap. A pointer uses its landing pads and the words of its
@@ -93,21 +93,22 @@ fn first_using<M: Segments>(
         IsTraceable m depth number path → IsFirstUsing m (places_of used.now) path result }
 {
     let mut branches: BranchStack<BRANCHES> = BranchStack::new();
-    let mut here = WordPlace { segment: 0, at: 0 };
+    let mut here = start(&mut branches);
     let mut at = 1;
     'words: loop {
         if at == number {
             return None;
         }
-        if uses_one(message, here.segment, here.at, used) {
+        let WordPlace { segment, at: word } = here.place;
+        if uses_one(message, segment, word, used) {
             return Some(EarlierPointer {
-                segment: here.segment,
-                word: here.at,
+                segment,
+                word,
                 pointers: at,
             });
         }
         // The word of this number comes later.
-        if !pass(message, depth, &mut branches, &mut here) {
+        if pass(message, depth, 1, &mut branches, &mut here) == 0 {
             unreachable!();
         }
         at += 1;

@@ -73,12 +73,12 @@ fn traced<M: Segments, S: StepSlot>(
     }
     // A search initializes its branches. The default depth limit is 64.
     if depth <= 64 {
-        return traced_within::<M, S, 64>(message, depth, number, steps);
+        return traced_within::<M, S, 65>(message, depth, number, steps);
     }
-    traced_within::<M, S, 256>(message, depth, number, steps)
+    traced_within::<M, S, 257>(message, depth, number, steps)
 }
 
-// The same of a message with a root word, with capacity for `N` steps.
+// The same of a message with a root word, with capacity for it and for fewer than `N` steps.
 #[inline(always)]
 fn traced_within<M: Segments, S: StepSlot, const N: usize>(
     message: &M,
@@ -86,7 +86,7 @@ fn traced_within<M: Segments, S: StepSlot, const N: usize>(
     number: u64,
     steps: &mut [S],
 ) -> Option<usize>
-    requires space { (depth ≤ N) × (N ≤ 256) }
+    requires space { (depth < N) × (N ≤ 257) }
     requires counted { 0 < number }
     requires root { 0 < length (segment_of (M.segments message.now) 0) }
     ensures reports { ReportsPath S.slot (M.segments message.now) depth number steps.old result steps.new }
@@ -94,7 +94,7 @@ fn traced_within<M: Segments, S: StepSlot, const N: usize>(
 {
     let mut branches: BranchStack<N> = BranchStack::new();
     match seek(message, depth, number, &mut branches) {
-        Some(_) => Some(write_path(branches.as_slice(), steps)),
+        Some(_) => Some(write_path(&branches.as_slice()[1..], steps)),
         None => None,
     }
 }

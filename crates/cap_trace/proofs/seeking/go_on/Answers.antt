@@ -1,65 +1,72 @@
-use Rattle.std.proofs.Common.{arith, length, rules, ◌+◌, ◌-◌, ◌≡◌}
-use Rattle.cap_spec.proofs.Lemmas.{short_segment}
+use Rattle.cap_spec.proofs.ProofNames.{append_assoc, length-append, sym, ◌∙◌}
+use Rattle.std.proofs.Common.{[], arith, length, ◌++◌, ◌-◌, ◌<◌, ◌∷◌, ◌≡◌}
 use Rattle.cap_trace.specs.TraceNames.{row_branch, Struct}
-use Rattle.cap_trace.proofs.Branches.{element_branch, is_row, last_read, last_written, length_parts, row_fits}
-use Rattle.cap_trace.proofs.Coming.{last_branch, took_element, took_word}
+use Rattle.cap_trace.proofs.Branches.{but_last_two, is_row, length_two, one_read, one_written}
+use Rattle.cap_trace.proofs.Searching.{at_next, element_fits, element_next, row_place}
 use Rattle.cap_trace.proofs.seeking.go_on.Goals as goal
 
-pub overflow_sub-top : goal.overflow_sub-top
-overflow_sub-top g c =
-    let (others, last, parts, some, m, depth, n, message, deep, h) = c.requires in
-    omega (arith, c.len-top.ensures.value, length_parts _ others last parts)
+pub take_element-row-requires-clause-place : goal.take_element-row-requires-clause-place
+take_element-row-requires-clause-place g c =
+    let (others, before, last, parts, some, m, depth, n, message, h) = c.requires in
+    let at : c.len-last.result - 1 - 1 ≡ length others = omega (arith, c.len-last.ensures.value, length_two _ others before last parts) in
+    let form = one_read _ c.as_slice.result.now others (last ∷ []) before (row_branch Struct 0 0 0) _ c.as_slice.ensures.value parts at in
+    rw (one_read _ c.as_mut_slice.result.now others (last ∷ []) before (row_branch Struct 0 0 0) _ c.as_mut_slice.ensures.value parts at)
+    (element_fits m depth n others before message h (rw form at c.in-Structs.is) some).0
 
-pub take_element-row-requires : goal.take_element-row-requires
-take_element-row-requires g c =
-    let (others, last, parts, some, m, depth, n, message, deep, h) = c.requires in
-    let long : c.len-top.result - 1 + 1 ≡ length c.args.branches.now.items = omega (arith, c.len-top.ensures.value, length_parts _ others last parts) in
-    let form = last_read _ c.as_slice.result.now others last (row_branch Struct 0 0 0) _ c.as_slice.ensures.value parts long in
-    let row = (element_branch m depth _ last (rw form at c.in-Structs.is) some (last_branch m depth n others last (rw parts at h))).0 in
-    rw (last_read _ c.as_mut_slice.result.now others last (row_branch Struct 0 0 0) _ c.as_mut_slice.ensures.value parts long)
-    (record { some = some; place = omega (arith, row.inside, short_segment m last.segment message row.exists) })
+pub next_word-requires-clause-some : goal.next_word-requires-clause-some
+next_word-requires-clause-some g c =
+    let (others, before, last, parts, some, m, depth, n, message, h) = c.requires in
+    let at : c.len-last.result - 1 - 1 ≡ length others = omega (arith, c.len-last.ensures.value, length_two _ others before last parts) in
+    let form = one_read _ c.as_slice.result.now others (last ∷ []) before (row_branch Struct 0 0 0) _ c.as_slice.ensures.value parts at in
+    let read = one_read _ c.as_mut_slice.result.now others (last ∷ []) before (row_branch Struct 0 0 0) _ c.as_mut_slice.ensures.value parts at in
+    rw (c.take_element-row.ensures.row, read) (omega (arith, (element_fits m depth n others before message h (rw form at c.in-Structs.is) some).1))
 
-pub enter_row-requires : goal.enter_row-requires
-enter_row-requires g c =
-    let (others, last, parts, some, m, depth, n, message, deep, h) = c.requires in
-    let long : c.len-top.result - 1 + 1 ≡ length c.args.branches.now.items = omega (arith, c.len-top.ensures.value, length_parts _ others last parts) in
-    let form = last_read _ c.as_slice.result.now others last (row_branch Struct 0 0 0) _ c.as_slice.ensures.value parts long in
-    let read = last_read _ c.as_mut_slice.result.now others last (row_branch Struct 0 0 0) _ c.as_mut_slice.ensures.value parts long in
-    let is = rw form at c.in-Structs.is in
-    let row = rw read at c.take_element-row.ensures.row in
-    let after = rw read at c.take_element-row.ensures.after in
-    let written = last_written _ c.as_mut_slice.result.now others last c.take_element-row.new.self _ c.as_mut_slice.ensures.value parts long in
-    let some_pointers = (element_branch m depth _ last is some (last_branch m depth n others last (rw parts at h))).1 in
-    (search rules, (rw row (omega (arith, some_pointers)), (m, depth, n, message, deep, rw (written, after, row) (took_element m depth n others last (rw parts at h) is some))))
+pub next_word-requires-clause-place : goal.next_word-requires-clause-place
+next_word-requires-clause-place g c =
+    let (others, before, last, parts, some, m, depth, n, message, h) = c.requires in
+    let at : c.len-last.result - 1 - 1 ≡ length others = omega (arith, c.len-last.ensures.value, length_two _ others before last parts) in
+    let form = one_read _ c.as_slice.result.now others (last ∷ []) before (row_branch Struct 0 0 0) _ c.as_slice.ensures.value parts at in
+    let read = one_read _ c.as_mut_slice.result.now others (last ∷ []) before (row_branch Struct 0 0 0) _ c.as_mut_slice.ensures.value parts at in
+    rw (c.take_element-row.ensures.row, read) (element_fits m depth n others before message h (rw form at c.in-Structs.is) some).0
 
-pub take_word-requires : goal.take_word-requires
-take_word-requires g c =
-    let (others, last, parts, some, m, depth, n, message, deep, h) = c.requires in
-    let long : c.len-top.result - 1 + 1 ≡ length c.args.branches.now.items = omega (arith, c.len-top.ensures.value, length_parts _ others last parts) in
-    let form = last_read _ c.as_slice.result.now others last (row_branch Struct 0 0 0) _ c.as_slice.ensures.value parts long in
-    let b = last_branch m depth n others last (rw parts at h) in
-    let fits = row_fits m depth _ last (is_row last.form last (rw form at c.in_default.not-Structs) some) b in
-    rw (last_read _ c.as_mut_slice-in_default.result.now others last (row_branch Struct 0 0 0) _ c.as_mut_slice-in_default.ensures.value parts long)
-    (record { some = some; place = omega (arith, fits.0, short_segment m last.segment message b.exists) })
+pub next_word-requires-in_default : goal.next_word-requires-in_default
+next_word-requires-in_default g c =
+    let (others, before, last, parts, some, m, depth, n, message, h) = c.requires in
+    let at : c.len-last.result - 1 - 1 ≡ length others = omega (arith, c.len-last.ensures.value, length_two _ others before last parts) in
+    let form = one_read _ c.as_slice.result.now others (last ∷ []) before (row_branch Struct 0 0 0) _ c.as_slice.ensures.value parts at in
+    rw (one_read _ c.as_slice-in_default.result.now others (last ∷ []) before (row_branch Struct 0 0 0) _ c.as_slice-in_default.ensures.value parts at)
+    (record { some = some; place = row_place m depth n others before message h (is_row before.form (rw form at c.in_default.not-Structs)) some })
 
 pub returns-in-Structs : goal.returns-in-Structs
-returns-in-Structs g c = λ m depth n h.
-    let (others, last, parts, some, m', depth', n', message, deep, h') = c.requires in
-    let long : c.len-top.result - 1 + 1 ≡ length c.args.branches.now.items = omega (arith, c.len-top.ensures.value, length_parts _ others last parts) in
-    let form = last_read _ c.as_slice.result.now others last (row_branch Struct 0 0 0) _ c.as_slice.ensures.value parts long in
-    let read = last_read _ c.as_mut_slice.result.now others last (row_branch Struct 0 0 0) _ c.as_mut_slice.ensures.value parts long in
-    let row = rw read at c.take_element-row.ensures.row in
-    let after = rw read at c.take_element-row.ensures.after in
-    let written = last_written _ c.as_mut_slice.result.now others last c.take_element-row.new.self _ c.as_mut_slice.ensures.value parts long in
-    c.enter_row.ensures m depth n (rw (written, after, row) (took_element m depth n others last (rw parts at h) (rw form at c.in-Structs.is) some))
+returns-in-Structs g c = λ others before last parts m depth n h.
+    let (others', before', last', parts', some, m', depth', n', message, h') = c.requires in
+    let list = c.take_element-row.new.self in
+    let at : c.len-last.result - 1 - 1 ≡ length others = omega (arith, c.len-last.ensures.value, length_two _ others before last parts) in
+    let at' : c.len-last.result - 1 - 1 ≡ length others' = omega (arith, c.len-last.ensures.value, length_two _ others' before' last' parts') in
+    let form = one_read _ c.as_slice.result.now others (last ∷ []) before (row_branch Struct 0 0 0) _ c.as_slice.ensures.value parts at in
+    let read = one_read _ c.as_mut_slice.result.now others (last ∷ []) before (row_branch Struct 0 0 0) _ c.as_mut_slice.ensures.value parts at in
+    let read' = one_read _ c.as_mut_slice.result.now others' (last' ∷ []) before' (row_branch Struct 0 0 0) _ c.as_mut_slice.ensures.value parts' at' in
+    let written = one_written _ c.as_mut_slice.result.now others (last ∷ []) before list _ c.as_mut_slice.ensures.value parts at
+    ∙ sym (append_assoc others (list ∷ []) (last ∷ [])) in
+    let next : c.len-last.result - 1 ≡ length (others ++ list ∷ []) =
+    omega (arith, c.len-last.ensures.value, length_two _ others before last parts, length-append others (list ∷ [])) in
+    let overwritten = one_written _ c.as_mut_slice-in-Structs.result.now (others ++ list ∷ []) [] last c.take_element-row.result _
+    c.as_mut_slice-in-Structs.ensures.value written next in
+    let is = rw form at c.in-Structs.is in
+    let less : before.taken < before.count = rw (sym read ∙ read') some in
+    let pointers = (element_fits m' depth' n' others' before' message h' (rw (sym read ∙ read') at is) some).1 in
+    rw (overwritten, c.next_word.ensures, c.take_element-row.ensures.row, c.take_element-row.ensures.after, read)
+    (at_next m depth n _ _ (element_next m depth n others before h is less) tt (rw (sym read ∙ read') (omega (arith, pointers))))
 
 pub returns-in_default : goal.returns-in_default
-returns-in_default g c = λ m depth n h.
-    let (others, last, parts, some, m', depth', n', message, deep, h') = c.requires in
-    let long : c.len-top.result - 1 + 1 ≡ length c.args.branches.now.items = omega (arith, c.len-top.ensures.value, length_parts _ others last parts) in
-    let form = last_read _ c.as_slice.result.now others last (row_branch Struct 0 0 0) _ c.as_slice.ensures.value parts long in
-    let read = last_read _ c.as_mut_slice-in_default.result.now others last (row_branch Struct 0 0 0) _ c.as_mut_slice-in_default.ensures.value parts long in
-    let place = rw read at c.take_word.ensures.place in
-    let after = rw read at c.take_word.ensures.after in
-    let written = last_written _ c.as_mut_slice-in_default.result.now others last c.take_word.new.self _ c.as_mut_slice-in_default.ensures.value parts long in
-    rw (written, after, place) (took_word m depth n others last (rw parts at h) (is_row last.form last (rw form at c.in_default.not-Structs) some))
+returns-in_default g c = λ others before last parts m depth n h.
+    let (others', before', last', parts', some, m', depth', n', message, h') = c.requires in
+    let at : c.len-last.result - 1 - 1 ≡ length others = omega (arith, c.len-last.ensures.value, length_two _ others before last parts) in
+    let at' : c.len-last.result - 1 - 1 ≡ length others' = omega (arith, c.len-last.ensures.value, length_two _ others' before' last' parts') in
+    let form = one_read _ c.as_slice.result.now others (last ∷ []) before (row_branch Struct 0 0 0) _ c.as_slice.ensures.value parts at in
+    let read = one_read _ c.as_slice-in_default.result.now others (last ∷ []) before (row_branch Struct 0 0 0) _ c.as_slice-in_default.ensures.value parts at in
+    let read' = one_read _ c.as_slice-in_default.result.now others' (last' ∷ []) before' (row_branch Struct 0 0 0) _ c.as_slice-in_default.ensures.value parts' at' in
+    let less : before.taken < before.count = rw (sym read ∙ read') some in
+    let gone : c.pop.new.self.items ≡ others ++ before ∷ [] = c.pop.ensures.rest ∙ but_last_two _ others before last parts in
+    rw (gone, c.next_word-in_default.ensures, read)
+    (at_next m depth n others before h (is_row before.form (rw form at c.in_default.not-Structs)) less)

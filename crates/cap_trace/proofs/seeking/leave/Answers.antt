@@ -1,35 +1,58 @@
-use Rattle.std.proofs.Common.{arith, length, rules, take, ◌+◌, ◌-◌, ◌≡◌}
+use Rattle.cap_spec.proofs.ProofNames.{length-append, ◌∙◌}
+use Rattle.std.proofs.Common.{[], arith, get_or, length, rules, take, ◌++◌, ◌+◌, ◌-◌, ◌∷◌, ◌≡◌}
 use Rattle.cap_trace.specs.TraceNames.{row_branch, Struct}
-use Rattle.cap_trace.proofs.Branches.{last_apart, none_left, two_apart}
-use Rattle.cap_trace.proofs.Coming.{none_higher, went_up}
+use Rattle.cap_trace.proofs.Branches.{all_but_last, but_last_two, last_two}
+use Rattle.cap_trace.proofs.Coming.{none_higher}
+use Rattle.cap_trace.proofs.Searching.{length_here, looked_here, popped, went_on, went_onward}
 use Rattle.cap_trace.proofs.seeking.leave.Goals as goal
+
+pub returns-then-here-gt0-clause-passed : goal.returns-then-here-gt0-clause-passed
+returns-then-here-gt0-clause-passed g c = λ m depth n h below.
+    went_on m depth n _ _ (went_onward m depth n _ _ h below (omega (arith, c.if-here-gt0.true)))
+
+pub up-init : goal.up-init
+up-init g c =
+    let (m, depth, n, message, h, below) = c.requires in
+    record {
+      some = omega (arith, length_here m depth n _ _ h);
+      looked = λ m depth n h below.
+          rw (all_but_last c.args.branches.now.items h.outer h.last h.parts)
+          (popped m depth n h.outer _ (looked_here m depth n _ _ h below) (omega (arith, c.if-here-gt0.false)));
+    }
+
+pub returns-then-count-lt2-clause-passed : goal.returns-then-count-lt2-clause-passed
+returns-then-count-lt2-clause-passed g c = λ m depth n h below.
+    let one : length c.up.branches.items - 1 ≡ 0 = omega (arith, c.len-count.ensures.value, c.if-count-lt2.true) in record {
+      on = λ some. absurd (omega (arith, some));
+      none = λ none more less path a. none_higher m depth n more path (rw one at (c.up.invariant.looked m depth n h below).passed) less a;
+    }
 
 pub go_on-requires : goal.go_on-requires
 go_on-requires g c =
-    let (m, depth, n, message, deep, h) = c.requires in
-    let long : c.len-count.result - 1 + 1 ≡ length c.up.branches.items = omega (arith, c.len-count.ensures.value, c.if-count-eq0.false) in
-    let parts = last_apart c.up.branches.items c.as_slice.result.now _ (row_branch Struct 0 0 0) c.as_slice.ensures.value long in
-    (search rules, (_, _, parts, c.if-top.true, m, depth, n, message, deep, c.up.invariant m depth n h))
+    let (m, depth, n, message, h, below) = c.requires in
+    let items = c.up.branches.items in
+    let long : c.len-count.result - 2 + 2 ≡ length items = omega (arith, c.len-count.ensures.value, c.if-count-lt2.false) in
+    let parts = last_two items c.as_slice.result.now _ (row_branch Struct 0 0 0) c.as_slice.ensures.value long in
+    (search rules, (_, _, _, parts, c.if-before.true, m, depth, n, message, rw (but_last_two items _ _ _ parts) at c.up.invariant.looked m depth n h below))
 
-pub next_row-requires : goal.next_row-requires
-next_row-requires g c =
-    let (m, depth, n, message, deep, h) = c.requires in
-    let (m, depth, n, message, deep, h) = c.requires in
-    let before : c.len-count.result - 2 + 2 ≡ length c.up.branches.items = omega (arith, c.len-count.ensures.value, c.if-count-gt1.true) in
-    let last : c.len-count.result - 1 + 1 ≡ length c.up.branches.items = omega (arith, c.len-count.ensures.value, c.if-count-gt1.true) in
-    let parts = two_apart c.up.branches.items c.as_slice-then-count-gt1.result.now c.as_slice.result.now _ _ (row_branch Struct 0 0 0)
-    c.as_slice-then-count-gt1.ensures.value c.as_slice.ensures.value before last in
-    let found = c.has_element.ensures (search rules) in
-    (search rules, (_, _, _, parts, found.0, found.1, c.if-top.false, m, depth, n, message, c.up.invariant m depth n h))
+pub returns-then-before-clause-passed : goal.returns-then-before-clause-passed
+returns-then-before-clause-passed g c = λ m depth n h below.
+    let items = c.up.branches.items in
+    let long : c.len-count.result - 2 + 2 ≡ length items = omega (arith, c.len-count.ensures.value, c.if-count-lt2.false) in
+    let parts = last_two items c.as_slice.result.now _ (row_branch Struct 0 0 0) c.as_slice.ensures.value long in
+    went_on m depth n _ _ (c.go_on.ensures _ _ _ parts m depth n (rw (but_last_two items _ _ _ parts) at c.up.invariant.looked m depth n h below))
 
 pub up-preserved : goal.up-preserved
-up-preserved g c = λ m depth n h.
-    let long : c.len-count.result - 1 + 1 ≡ length c.up.branches.items = omega (arith, c.len-count.ensures.value, c.if-count-eq0.false) in
-    let parts = last_apart c.up.branches.items c.as_slice.result.now _ (row_branch Struct 0 0 0) c.as_slice.ensures.value long in
-    let gone : c.pop.new.self.items ≡ take (c.len-count.result - 1) c.up.branches.items = rw c.len-count.ensures.value c.pop.ensures.rest in
-    rw gone (went_up m depth n _ _ (rw parts at c.up.invariant m depth n h) (omega (arith, c.if-top.false)))
-
-pub returns-then-count-eq0 : goal.returns-then-count-eq0
-returns-then-count-eq0 g c = λ m depth n h more less path a.
-    let none = none_left c.up.branches.items (omega (arith, c.len-count.ensures.value, c.if-count-eq0.true)) in
-    none_higher m depth n more path (rw none at c.up.invariant m depth n h) less a
+up-preserved g c =
+    let items = c.up.branches.items in
+    let i = c.len-count.result - 2 in
+    let before = get_or c.as_slice.result.now i (row_branch Struct 0 0 0) in
+    let long : i + 2 ≡ length items = omega (arith, c.len-count.ensures.value, c.if-count-lt2.false) in
+    let parts = last_two items c.as_slice.result.now i (row_branch Struct 0 0 0) c.as_slice.ensures.value long in
+    let rest : c.pop.new.self.items ≡ take i items ++ before ∷ [] = c.pop.ensures.rest ∙ but_last_two items _ _ _ parts in
+    record {
+      some = rw rest (omega (arith, length-append (take i items) (before ∷ [])));
+      looked = λ m depth n h below.
+          rw (all_but_last c.pop.new.self.items (take i items) before rest)
+          (popped m depth n _ _ (rw (but_last_two items _ _ _ parts) at c.up.invariant.looked m depth n h below) (omega (arith, c.if-before.false)));
+    }

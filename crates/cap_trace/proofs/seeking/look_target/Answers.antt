@@ -1,23 +1,16 @@
-use Rattle.std.proofs.Common.{arith, refl, rules}
-use Rattle.cap_trace.proofs.Coming.{passed_into}
+use Rattle.std.proofs.Common.{refl, rules}
 use Rattle.cap_trace.proofs.seeking.look_target.Goals as goal
 
-pub push-requires : goal.push-requires
-push-requires g c =
+pub enter-requires : goal.enter-requires
+enter-requires g c =
     let (m, n, message, h, f) = c.requires.found in
     let below = rw (c.in-Object-Some.field-0-is, c.level_after.ensures.value) at c.in-Object-Some.ensures m _ _ f in
-    omega (arith, c.requires.space.0, below.1.0.shallow)
-
-pub go_on-requires : goal.go_on-requires
-go_on-requires g c =
-    let (m, n, message, h, f) = c.requires.found in
-    let below = rw (c.in-Object-Some.field-0-is, c.level_after.ensures.value) at c.in-Object-Some.ensures m _ _ f in
-    (search rules, (_, _, c.push.ensures.items, below.1.1, m, c.args.depth, n, message, c.requires.space.0, rw c.push.ensures.items (passed_into m c.args.depth n _ _ _ h below)))
+    (search rules, (m, c.args.depth, n, message, c.requires.space.0, h, below))
 
 pub returns-in-Object-Some : goal.returns-in-Object-Some
 returns-in-Object-Some g c = λ m f n h.
     let below = rw (c.in-Object-Some.field-0-is, c.level_after.ensures.value) at c.in-Object-Some.ensures m _ _ f in
-    c.go_on.ensures m c.args.depth n (rw c.push.ensures.items (passed_into m c.args.depth n _ _ _ h below))
+    c.enter.ensures m c.args.depth n h below
 
 pub returns-in-Object-None : goal.returns-in-Object-None
 returns-in-Object-None g c = λ m f.

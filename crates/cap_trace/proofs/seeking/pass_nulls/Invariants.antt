@@ -1,16 +1,14 @@
-use Rattle.std.proofs.Common.{[], get_or, take, ℕ, ◌++◌, ◌+◌, ◌-◌, ◌<◌, ◌∷◌}
-use Rattle.cap_trace.specs.TraceNames.{row_branch, skipped, HasCome, Struct}
+use Rattle.std.proofs.Common.{List, ℕ, ◌+◌, ◌-◌, ◌<◌, ◌≤◌}
+use Rattle.cap_trace.specs.TraceNames.{onward, Branch, IsSearch}
 use Rattle.cap_trace.proofs.seeking.pass_nulls.Given as goal
 
 abbrev pub invariant-nulls : goal.invariant-nulls
 invariant-nulls g l =
-    let m = g.M.Segments.segments l.message in
-    let items = l.branches.items in record {
-      few : l.further < l.most;
-      passed : (depth n : ℕ) → HasCome m depth n items l.fn.here
-          → HasCome m depth (n + (l.further + 1)) (take l.top items ++ skipped (get_or items l.top (row_branch Struct 0 0 0)) (l.further + 1) ∷ [])
-          (record { segment = l.segment; at = l.next + l.further });
+    let m = g.M.Segments.segments l.message in record {
+      few : (0 < l.passed) × (l.passed ≤ l.most);
+      search : (depth n : ℕ) (branches : List Branch) → IsSearch m depth n branches l.fn.here
+          → IsSearch m depth (n + l.passed) branches (onward l.fn.here l.passed);
     }
 
 abbrev pub decreases-nulls : goal.decreases-nulls
-decreases-nulls g l = l.most - l.further
+decreases-nulls g l = l.most - l.passed
