@@ -50,6 +50,8 @@ fn greatest() -> Limits
 /// # Errors
 ///
 /// Those of [`vet_with`].
+// It is inlined, since its result would be copied from call to call.
+#[inline(always)]
 pub fn check_with<'m, M: Segments>(
     message: &'m M,
     limits: Limits,
