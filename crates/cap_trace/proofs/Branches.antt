@@ -162,7 +162,7 @@ row_fits m depth level f some h = by_form f.form some h.inside
     by_form Pointers some h = (h, refl)
     by_form Structs some h = absurd (omega (arith, some))
 
--- What isn't a list of structs is a row,
+-- A form other than a list of structs is a row,
 pub is_row : (form : Form) → (form ≡ Structs → ⊥) → IsRow form
 is_row Struct other = tt
 is_row Pointers other = tt
@@ -233,7 +233,7 @@ last_two branches now i d same long =
     ∙ append_assoc (take i branches) (get_or branches i d ∷ []) (get_or now (i + 1) d ∷ [])
     ∙ ap (λ (u : List Branch). take i branches ++ get_or u i d ∷ get_or now (i + 1) d ∷ []) (sym same)
 
--- What is left without the last one.
+-- The branches without the last one.
 pub all_but_last : (branches others : List Branch) (last : Branch) → branches ≡ others ++ last ∷ []
     → take (length branches - 1) branches ≡ others
 all_but_last branches others last parts =

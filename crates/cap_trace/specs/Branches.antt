@@ -94,7 +94,7 @@ place_of f = record { segment = f.segment; at = f.start + f.taken - 1 }
 abbrev pub settled : Branch → ℕ → Branch
 settled f left = record f { taken = f.count - left }
 
--- the next word of a row
+-- the next word of a row, and how many come after it
 abbrev pub next_word : Branch → Cursor
 next_word f = record {
   place = record { segment = f.segment; at = f.start + f.taken };
@@ -126,7 +126,7 @@ element_row f =
 abbrev pub root_row : Branch
 root_row = skipped (row_branch Struct 0 0 1) 1
 
--- The root word comes first.
+-- The root word comes first, if there is any branch.
 abbrev pub IsRooted : List Branch → Type 0
 IsRooted [] = ⊤
 IsRooted (f ∷ branches) = f ≡ root_row

@@ -10,14 +10,15 @@ use Rattle.cap_trace.specs.declared.branch.WordPlace.{WordPlace}
 use Rattle.cap_trace.specs.declared.seeking.Looked.{Looked}
 use Rattle.cap_trace.specs.declared.seeking.Looked.TheVariants.{Blocked, Entered, Nothing, Null, Unknown}
 
--- The search is at the last word of this row that was taken. Before the row come others, and the root word is the first.
+-- The search is at the last word of this row that was taken. The outer branches come before the row.
+-- The first of all is the root word.
 pub record IsAtRow (m : List (List ℕ)) (depth n : ℕ) (outer : List Branch) (row : Branch) : Type 0 where
   pub come : HasCome m depth n (drop 1 (outer ++ row ∷ [])) (place_of row)
   pub rooted : IsRooted (outer ++ row ∷ [])
   pub is_row : IsRow row.form
   pub some : 0 < row.taken
 
--- The search is at this word. The last row has as many left as come after the word, whatever it says itself.
+-- The search is at this word. The last row has as many words left as the cursor. The row's own `taken` has no effect.
 pub record IsSearch (m : List (List ℕ)) (depth n : ℕ) (branches : List Branch) (here : Cursor) : Type 0 where
   pub outer : List Branch
   pub last : Branch
@@ -25,12 +26,13 @@ pub record IsSearch (m : List (List ℕ)) (depth n : ℕ) (branches : List Branc
   pub at_row : IsAtRow m depth n outer (settled last here.left)
   pub place : here.place ≡ place_of (settled last here.left)
 
--- The search has looked at the word of number n. What these branches have left comes after it, and the root word is the first.
+-- The search has looked at the word of number n. The words that these branches have left come after it.
+-- The first branch is the root word.
 pub record HasLooked (m : List (List ℕ)) (depth n : ℕ) (branches : List Branch) : Type 0 where
   pub passed : HasPassed m depth n (drop 1 branches)
   pub rooted : IsRooted branches
 
--- The search has come to this word. The branches are the root word and the steps to it.
+-- The search has come to this word. After the first branch come those of the steps to it.
 pub record HasFound (m : List (List ℕ)) (depth n : ℕ) (branches : List Branch) (here : WordPlace) : Type 0 where
   pub come : HasCome m depth n (drop 1 branches) here
   pub rooted : 0 < length branches

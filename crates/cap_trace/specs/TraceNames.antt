@@ -9,7 +9,6 @@ pub use Rattle.cap_trace.specs.PointerNumbers.{IsTraceable, PassesAt}
 pub use Rattle.cap_trace.specs.Seeking.{HasBelow, HasFound, HasLooked, IsAtRow, IsSearch, Passes}
 pub use Rattle.cap_trace.specs.Traces.{GivesPath, GoesBelow, HasCome, HasPassed, IsBlockedAt, IsPut, ReportsPath}
 pub use Rattle.cap_trace.specs.Traces.{word_ahead}
-pub use Rattle.cap_trace.specs.declared.below.Below.{Below}
 pub use Rattle.cap_trace.specs.declared.below.Below.TheVariants.{Object}
 pub use Rattle.cap_trace.specs.declared.branch.Branch.{Branch}
 pub use Rattle.cap_trace.specs.declared.branch.Cursor.{Cursor}

@@ -1,7 +1,7 @@
 //! A step on the way down to a pointer word, and the words that come after it.
 
 ghost use Rattle.cap_trace.specs.Branches.{IsCounted, element_row, next_word, root_row, row_branch, skipped, step_of};
-ghost use Rattle.std.specs.Prelude.{◌+◌, ◌<◌, ◌^◌, ◌≡◌, ◌≤◌};
+ghost use Rattle.std.specs.Prelude.{◌+◌, ◌<◌, ◌^◌, ◌≡◌};
 
 use cap_spec::Step;
 
@@ -79,7 +79,7 @@ impl Branch {
         }
     }
 
-    /// The next word of a row.
+    /// The next word of a row, and how many come after it.
     #[inline(always)]
     pub(crate) fn next_word(&self) -> Cursor
         requires some { self.now.taken < self.now.count }

@@ -7,7 +7,8 @@ ghost use Rattle.std.specs.Prelude.{◌<◌, IfSome, length};
 use cap_frame::Segments;
 use cap_ptr::{Target, structs_target, tag_at};
 
-/// The list of structs that the word at this place describes with the list's tag.
+/// The target of the word at this place, if the word describes a list of structs with the list's tag.
+/// `None` for any other word.
 #[inline(always)]
 pub(crate) fn struct_list<M: Segments>(
     message: &M,

@@ -19,7 +19,7 @@ use cap_ptr::{Row, Target, near_row};
 /// The root word and the steps on the way down to a pointer word, with the words that come after it.
 /// Each step takes a level, so 257 are enough for the greatest depth. While a search goes on, its
 /// cursor has how many words of the last row are left. The row itself has that only when the search
-/// goes on below.
+/// goes on below, or ends.
 pub(crate) type BranchStack<const N: usize> = ArrayVec<Branch, N>;
 
 /// What comes of looking at a pointer word.
@@ -37,7 +37,7 @@ enum Looked {
     Unknown,
 }
 
-// The level of what the word after these steps leads to.
+// The level of what the word of the search leads to: there are as many branches as levels.
 #[inline(always)]
 fn level_after<const N: usize>(branches: &BranchStack<N>) -> u32
     requires { N ≤ 257 }
@@ -98,9 +98,9 @@ pub(crate) fn start<const N: usize>(branches: &mut BranchStack<N>) -> Cursor
     }
 }
 
-/// Goes on to the next pointer word in preorder, or over as many null words of a row as there are, but
-/// over at most `most`. Gives how many, and 0 if there is no way on. Most words are null, or describe
-/// their objects.
+/// Goes on to the next pointer word in preorder. Over null words of one row it goes on by more, but by
+/// at most `most`. Gives how many words it went on, and 0 if there is no way on. Most words are null, or
+/// describe their objects.
 #[inline(always)]
 pub(crate) fn pass<M: Segments, const N: usize>(
     message: &M,
@@ -124,7 +124,7 @@ pub(crate) fn pass<M: Segments, const N: usize>(
         Looked::Null => pass_nulls(message, most, here),
         Looked::Nothing => leave(branches, here),
         Looked::Unknown => {
-            // It works on a copy, so that the cursor of a loop has no address outside of it.
+            // The call gets a copy, so that the cursor itself stays in registers.
             let mut from = *here;
             let passed = pass_followed(message, depth, branches, &mut from);
             *here = from;
@@ -282,7 +282,7 @@ fn settle<const N: usize>(branches: &mut BranchStack<N>, at: usize, left: u32)
     row.taken = row.count - left;
 }
 
-// Goes on to the first of the words of this object, which is below the word.
+// Goes on to the first pointer word of this object. The word leads to the object.
 #[inline(always)]
 fn enter<const N: usize>(branches: &mut BranchStack<N>, here: &mut Cursor, object: Branch)
     requires { (m : List (List ℕ)) × (depth n : ℕ) × IsMessage m × (depth < N)
@@ -336,7 +336,8 @@ fn leave<const N: usize>(branches: &mut BranchStack<N>, here: &mut Cursor) -> u6
 }
 
 // Goes on to the next of the words that the branch before the last one has left. The last one is taken
-// away, or is now the next element. To take it away then and to append one would take longer.
+// away, or the row of the next element is written over it. To take it away and append one would take
+// longer.
 #[inline(always)]
 fn go_on<const N: usize>(branches: &mut BranchStack<N>, here: &mut Cursor)
     requires { (others : List Branch) × (before last : Branch)

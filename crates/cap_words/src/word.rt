@@ -24,7 +24,8 @@ pub fn bits(word: u64, low: u32, count: u32) -> u64
 pub fn signed_offset(word: u64) -> i64
     ensures { result ≡ signed_offset_of word }
 {
-    // This takes no comparison, on whose result the next word of a chain would wait.
+    // With 1 << 31 added to the word, the offset is 1 << 29 more, and not negative. A comparison would
+    // take longer: in a chain the load of the next word waits for the offset.
     bits(word.wrapping_add(1 << 31), 2, 30) as i64 - (1 << 29)
 }
 
