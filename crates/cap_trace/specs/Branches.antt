@@ -90,7 +90,7 @@ AreBranches m depth level (f ∷ branches) =
 abbrev pub place_of : Branch → WordPlace
 place_of f = record { segment = f.segment; at = f.start + f.taken - 1 }
 
--- the branch with so many left
+-- the branch with this number left
 abbrev pub settled : Branch → ℕ → Branch
 settled f left = record f { taken = f.count - left }
 

@@ -42,7 +42,7 @@ abbrev pub HasBelow : List (List ℕ) → ℕ → List Branch → Cursor → Opt
 HasBelow m depth branches here below =
     GoesBelow m depth here.place.segment here.place.at (length branches) (Object below)
 
--- From the word of number n it went over so many words. Or no path of a higher number can be traced.
+-- From the word of number n the search went over `passed` words. Or no path of a higher number can be traced.
 pub record Passes (m : List (List ℕ)) (depth n : ℕ) (next : List Branch) (there : Cursor) (passed : ℕ) : Type 0 where
   pub on : 0 < passed → IsSearch m depth (n + passed) next there
   pub none : passed ≡ 0 → (more : ℕ) → n < more → IsMissing m depth more
