@@ -7,6 +7,7 @@ mod branch;
 mod earlier;
 mod lists;
 mod naming;
+mod near;
 mod row;
 mod seeking;
 mod slot;

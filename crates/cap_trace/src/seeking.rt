@@ -4,6 +4,7 @@ ghost use Rattle.cap_ptr.specs.Rows.{FindsRow};
 ghost use Rattle.cap_ptr.specs.Shapes.{FindsTarget};
 ghost use Rattle.cap_spec.specs.Messages.{HasWord, IsMessage, segment_of};
 ghost use Rattle.cap_trace.specs.Branches.{settled};
+ghost use Rattle.cap_trace.specs.NearPointers.{IsNearPointer};
 ghost use Rattle.cap_trace.specs.Seeking.{HasBelow, HasFound, HasLooked, IsLooked, IsSearch, Passes};
 ghost use Rattle.cap_trace.specs.Traces.{IsMissing};
 ghost use Rattle.std.specs.Prelude.{◌+◌, ◌++◌, ◌<◌, ◌≡◌, ◌≤◌, [], ◌∷◌, IfSome, List, None, Some, length, ℕ};
@@ -11,10 +12,11 @@ ghost use Rattle.std.specs.Prelude.{◌+◌, ◌++◌, ◌<◌, ◌≡◌, ◌�
 use crate::below::{Below, below_target, look_below};
 use crate::branch::{Branch, Cursor, Form, WordPlace};
 use crate::lists::struct_list;
+use crate::near::{NearPointer, one_word_pad};
 use crate::row::branch_of_row;
 use arrayvec::ArrayVec;
 use cap_frame::Segments;
-use cap_ptr::{Row, Target, near_row};
+use cap_ptr::{Row, Target, kind, middle, near_row};
 
 /// The root word and the steps on the way down to a pointer word, with the words that come after it.
 /// Each step takes a level, so 257 are enough for the greatest depth. While a search goes on, its
@@ -180,12 +182,44 @@ fn look<M: Segments, const N: usize>(
             Looked::Nothing
         };
     }
+    let near = NearPointer {
+        pads: 0,
+        segment,
+        at,
+        word,
+    };
     if let Some(row) = near_row(word, at, message.len(segment)) {
-        return look_row(depth, branches, here, word, &row);
+        return look_row(depth, branches, here, &near, &row);
     }
-    match struct_list(message, segment, at, word) {
-        Some(list) => look_target(depth, branches, here, &list),
+    if kind(word) != 2 {
+        return look_other(message, depth, branches, here, &near);
+    }
+    match one_word_pad(message, segment, at, word) {
+        Some(pad) => look_near(message, depth, branches, here, &pad),
         None => Looked::Unknown,
+    }
+}
+
+// The same by a word that takes the place of that word.
+#[inline(always)]
+fn look_near<M: Segments, const N: usize>(
+    message: &M,
+    depth: u32,
+    branches: &mut BranchStack<N>,
+    here: &mut Cursor,
+    near: &NearPointer,
+) -> Looked
+    requires space { (depth < N) × (N ≤ 257) }
+    requires search { (n : ℕ)
+        × IsSearch (M.segments message.now) depth n branches.old.items here.old }
+    requires near { let m = M.segments message.now in
+        IsNearPointer m here.old.place.segment here.old.place.at near.now }
+    ensures { IsLooked (M.segments message.now) depth branches.old.items here.old
+        branches.new.items here.new result }
+{
+    match near_row(near.word, near.at, message.len(near.segment)) {
+        Some(row) => look_row(depth, branches, here, near, &row),
+        None => look_other(message, depth, branches, here, near),
     }
 }
 
@@ -195,15 +229,17 @@ fn look_row<const N: usize>(
     depth: u32,
     branches: &mut BranchStack<N>,
     here: &mut Cursor,
-    word: u64,
+    near: &NearPointer,
     row: &Row,
 ) -> Looked
     requires space { (depth < N) × (N ≤ 257) }
     requires found { (m : List (List ℕ)) × (n : ℕ) × IsMessage m
         × IsSearch m depth n branches.old.items here.old
-        × FindsRow m here.old.place.segment here.old.place.at word row.now }
+        × IsNearPointer m here.old.place.segment here.old.place.at near.now
+        × FindsRow m near.now.segment near.now.at near.now.word row.now }
     ensures { (m : List (List ℕ)) →
-        FindsRow m here.old.place.segment here.old.place.at word row.now →
+        IsNearPointer m here.old.place.segment here.old.place.at near.now →
+        FindsRow m near.now.segment near.now.at near.now.word row.now →
         IsLooked m depth branches.old.items here.old branches.new.items here.new result }
 {
     if level_after(branches) > depth {
@@ -212,8 +248,34 @@ fn look_row<const N: usize>(
     if row.pointer_count == 0 {
         return Looked::Nothing;
     }
-    enter(branches, here, branch_of_row(here.place.segment, word, row));
+    enter(branches, here, branch_of_row(near, row));
     Looked::Entered
+}
+
+// The same of a word that describes no object alone: the list's tag may, or it is a capability.
+#[inline(always)]
+fn look_other<M: Segments, const N: usize>(
+    message: &M,
+    depth: u32,
+    branches: &mut BranchStack<N>,
+    here: &mut Cursor,
+    near: &NearPointer,
+) -> Looked
+    requires space { (depth < N) × (N ≤ 257) }
+    requires search { (n : ℕ)
+        × IsSearch (M.segments message.now) depth n branches.old.items here.old }
+    requires near { let m = M.segments message.now in
+        IsNearPointer m here.old.place.segment here.old.place.at near.now }
+    ensures { IsLooked (M.segments message.now) depth branches.old.items here.old
+        branches.new.items here.new result }
+{
+    if let Some(list) = struct_list(message, near.pads, near.segment, near.at, near.word) {
+        return look_target(depth, branches, here, &list);
+    }
+    if kind(near.word) == 3 && middle(near.word) == 0 {
+        return Looked::Nothing;
+    }
+    Looked::Unknown
 }
 
 // The same of a word that leads to this target.

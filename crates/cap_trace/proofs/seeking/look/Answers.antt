@@ -1,4 +1,5 @@
-use Rattle.std.proofs.Common.{refl}
+use Rattle.std.proofs.Common.{arith, refl, rules, sym}
+use Rattle.cap_ptr.proofs.Pads.{lies-near}
 use Rattle.cap_trace.proofs.Nulls.{null_below}
 use Rattle.cap_trace.proofs.seeking.look.Goals as goal
 
@@ -7,6 +8,54 @@ returns-else-here-gt0 g c =
     let m = g.M.Segments.segments c.args.message.now in
     (refl, refl, null_below m c.args.depth _ _ _ (rw c.if-word-eq0.true at c.word-word.ensures))
 
-pub returns-in-Some-struct_list : goal.returns-in-Some-struct_list
-returns-in-Some-struct_list g c =
-    c.look_target.ensures (g.M.Segments.segments c.args.message.now) c.in-Some-struct_list.ensures
+pub look_row-requires : goal.look_row-requires
+look_row-requires g c =
+    let m = g.M.Segments.segments c.args.message.now in
+    let here = c.args.here.now.place in
+    let row = c.in-Some.ensures in
+    let (n, h) = c.requires.search in (
+      search rules,
+      (
+        c.requires.space,
+        (
+          m,
+          n,
+          g.met.M.Segments.is_message c.args.message.now,
+          h,
+          record {
+            has = c.word-word.ensures;
+            resolves = lies-near m here.segment here.at c.word-word.result c.word-word.ensures (λ e. omega (arith, row.plain.0, e));
+            few = omega arith;
+          },
+          row.row m here.segment c.word-word.ensures (sym c.len.ensures),
+        ),
+      ),
+    )
+
+pub returns-in-Some : goal.returns-in-Some
+returns-in-Some g c =
+    let m = g.M.Segments.segments c.args.message.now in
+    let here = c.args.here.now.place in
+    let row = c.in-Some.ensures in
+    c.look_row.ensures m (record {
+      has = c.word-word.ensures;
+      resolves = lies-near m here.segment here.at c.word-word.result c.word-word.ensures (λ e. omega (arith, row.plain.0, e));
+      few = omega arith;
+    }) (row.row m here.segment c.word-word.ensures (sym c.len.ensures))
+
+pub look_other-requires : goal.look_other-requires
+look_other-requires g c =
+    let here = c.args.here.now.place in (
+      search rules,
+      (
+        c.requires.space,
+        (
+          c.requires.search,
+          record {
+            has = c.word-word.ensures;
+            resolves = lies-near _ here.segment here.at c.word-word.result c.word-word.ensures (λ e. omega (arith, c.kind.ensures, c.if-kind-ne2.true, e));
+            few = omega arith;
+          },
+        ),
+      ),
+    )
