@@ -18,7 +18,7 @@ import bench
 from bench import TOP
 
 SHAPES = (("chain", 8), ("chain", 33), ("chain", 61), ("chain", 80), ("chain", 200), ("tree", 3), ("tree", 31), ("tree", 511),
-          ("tree", 2047), ("list", 30), ("list", 300))
+          ("tree", 2047), ("list", 30), ("list", 300), ("far", 500), ("caps", 500))
 # Linkers put cold functions first, so there are as many bytes in their section.
 PADDING = """\
     .section .text.unlikely, "ax"

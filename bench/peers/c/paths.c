@@ -3,8 +3,9 @@
  *     paths SHAPE COUNT ROUNDS
  *
  * SHAPE is `chain`: structs of one pointer, each to the next one. Or it is `tree`: a binary tree of structs of two
- * pointers. Or it is `list`: a list of structs, each of a text and a null pointer. COUNT is the number of structs, at
- * most 2047. The last pointer in preorder leads out of the segment. The line has the least times of both calls over the
+ * pointers. Or it is `list`: a list of structs, each of a text and a null pointer. Or it is `far`: a struct of far
+ * pointers, each to a pad of one word before a struct of a data word. Or it is `caps`: a struct of capabilities. COUNT
+ * is the number of structs or of capabilities, at most 2047. The last pointer in preorder leads out of its segment. The line has the least times of both calls over the
  * rounds, in nanoseconds. In each round they are timed in turn. The status is 1 where a call doesn't answer what it has
  * to. */
 #define _POSIX_C_SOURCE 199309L
@@ -16,7 +17,7 @@
 
 #define MOST 2047
 
-static uint64_t frame[4 + 3 * MOST];
+static uint64_t frame[4 + 4 * MOST];
 static capvet_step steps[CAPVET_MAX_DEPTH];
 
 static double now(void) {
@@ -56,9 +57,30 @@ static uint64_t write_list(uint64_t count, uint64_t *segment) {
   return texts + count;
 }
 
+/* Writes the words of a struct of pointers, each far to its pad in the second segment or a capability. */
+static void write_row(int is_far, uint64_t count, uint64_t *segment) {
+  uint64_t *second = segment + 1 + count;
+  segment[0] = to_struct(0, 1, count);
+  for (uint64_t k = 0; k < count; k++) {
+    segment[1 + k] = is_far ? 2 | 2 * k << 3 | (uint64_t)1 << 32 : 3 | k << 32;
+    second[2 * k] = (uint64_t)1 << 32;
+    second[2 * k + 1] = k;
+  }
+}
+
+/* Writes the frame of such a message. Gives its length in bytes. */
+static size_t write_segments(int is_far, uint64_t count) {
+  write_row(is_far, count, frame + 2);
+  frame[0] = 1 | (1 + count) << 32;
+  frame[1] = 2 * count;
+  frame[2 + count] = to_struct(count, 3 * count + 2, 1);
+  return 8 * (3 + 3 * count);
+}
+
 /* Writes the frame. Gives its length in bytes. */
 static size_t write_frame(const char *shape, uint64_t count) {
-  const int is_list = strcmp(shape, "list") == 0;
+  const int is_list = strcmp(shape, "list") == 0, is_far = strcmp(shape, "far") == 0;
+  if (is_far || strcmp(shape, "caps") == 0) return write_segments(is_far, count);
   const uint64_t each = strcmp(shape, "tree") == 0 ? 2 : 1;
   const uint64_t words = is_list ? write_list(count, frame + 1) : write_structs(each, count, frame + 1);
   const uint64_t last = is_list ? 2 + 2 * count : words - 1;
