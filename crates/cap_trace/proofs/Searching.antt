@@ -182,7 +182,7 @@ onward_more here k =
 pub found_here : (m : List (List ℕ)) (depth n : ℕ) (branches : List Branch) (here : Cursor)
     → (h : IsSearch m depth n branches here) → HasFound m depth n (h.outer ++ settled h.last here.left ∷ []) here.place
 found_here m depth n branches here h =
-    record { come = come_here m depth n branches here h; rooted = omega (arith, length-append h.outer (settled h.last here.left ∷ [])) }
+    record { come = come_here m depth n branches here h; some = omega (arith, length-append h.outer (settled h.last here.left ∷ [])) }
 
 -- Where there is no way on, no path of a higher number is traceable.
 search_ends : (m : List (List ℕ)) (depth n more : ℕ) (branches : List Branch) (here : Cursor) (q : List Step)

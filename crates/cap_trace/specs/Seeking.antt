@@ -35,7 +35,7 @@ pub record HasLooked (m : List (List ℕ)) (depth n : ℕ) (branches : List Bran
 -- The search has come to this word. After the first branch come those of the steps to it.
 pub record HasFound (m : List (List ℕ)) (depth n : ℕ) (branches : List Branch) (here : WordPlace) : Type 0 where
   pub come : HasCome m depth n (drop 1 branches) here
-  pub rooted : 0 < length branches
+  pub some : 0 < length branches
 
 -- The pointer at this word passes, and these pointers of its object are ahead, if it has some.
 abbrev pub HasBelow : List (List ℕ) → ℕ → List Branch → Cursor → Option Branch → Type 0
@@ -47,7 +47,7 @@ pub record Passes (m : List (List ℕ)) (depth n : ℕ) (next : List Branch) (th
   pub on : 0 < passed → IsSearch m depth (n + passed) next there
   pub none : passed ≡ 0 → (more : ℕ) → n < more → IsMissing m depth more
 
--- What comes of looking at a word. The search has come to the first word below it, or there is no way on.
+-- The result of looking at a word. The search has come to the first word below it, or there is no way on.
 -- Or it is null and others of its row follow, or nothing is below it, or none of these is known.
 abbrev pub IsLooked : List (List ℕ) → ℕ → List Branch → Cursor → List Branch → Cursor → Looked → Type 0
 IsLooked m depth branches here next there Entered =
