@@ -1,8 +1,16 @@
--- A search goes on past words with nothing below them.
+-- Words that describe their objects, and words with nothing below them.
 use Rattle.cap_spec.proofs.Pointers.Following.{cap-not_wrong, null-not_wrong}
-use Rattle.cap_spec.proofs.ProofNames.{List, None, refl, ℕ, Leads, near, to_cap, to_null, HasWord, arith}
+use Rattle.cap_spec.proofs.ProofNames.{List, None, refl, ℕ, ◌≡◌, ◌≢◌, Leads, kind, near, to_cap, to_null, HasWord, arith}
+use Rattle.cap_ptr.proofs.Pads.{lies-near}
+use Rattle.cap_trace.specs.NearPointers.{IsNearPointer}
 use Rattle.cap_trace.specs.TraceNames.{GoesBelow, Object}
 use Rattle.cap_trace.proofs.Onward.{cap_finds_none, leaf_trail, null_finds_none}
+
+-- A word that isn't far takes its own place.
+pub near_word : (m : List (List ℕ)) (s w at word : ℕ) → at ≡ w → HasWord m s at word → kind word ≢ 2
+    → IsNearPointer m s w (record { pads = 0; segment = s; at = at; word = word })
+near_word m s w at word is has plain =
+    record { has = has; resolves = rw is (lies-near m s w word (rw is at has) plain); few = omega arith }
 
 -- Nothing is below a pointer that leads to null,
 pub nothing_below : (m : List (List ℕ)) (depth k s w level : ℕ) → Leads m s w k to_null → GoesBelow m depth s w level (Object None)

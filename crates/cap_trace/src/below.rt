@@ -33,7 +33,7 @@ pub(crate) fn look_below<M: Segments>(
     requires level { level ≤ 257 }
     ensures { GoesBelow (M.segments message.now) depth from.now.segment from.now.at level result }
 {
-    match follow(message, from.segment, from.at) {
+    match follow(message, from.segment, from.word()) {
         Ok(Followed::Target(target)) => below_target(&target, depth, level),
         Ok(Followed::Null { .. }) => Below::Object(None),
         Ok(Followed::Cap { .. }) => Below::Object(None),

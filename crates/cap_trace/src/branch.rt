@@ -21,7 +21,19 @@ pub(crate) enum Form {
 #[derive(Clone, Copy, Drop)]
 pub(crate) struct WordPlace {
     pub(crate) segment: u32,
-    pub(crate) at: u32,
+    // Its number has 32 bits. From 64 the processor needn't extend it before each load.
+    pub(crate) at: u64,
+}
+
+impl WordPlace {
+    /// Its number in its segment.
+    #[inline(always)]
+    pub(crate) fn word(&self) -> u32
+        requires { self.now.at < 2 ^ 32 }
+        ensures { result ≡ self.now.at }
+    {
+        self.at as u32
+    }
 }
 
 /// The pointer word that a search is at, and how many words of its row come after it.
@@ -89,7 +101,7 @@ impl Branch {
         Cursor {
             place: WordPlace {
                 segment: u32::from(self.segment),
-                at: self.start + self.taken,
+                at: u64::from(self.start + self.taken),
             },
             left: self.count - self.taken - 1,
         }

@@ -61,7 +61,7 @@ fn earlier_within<M: Segments>(message: &M, depth: u32, number: u64) -> Option<E
     ensures { ReportsEarlier (M.segments message.now) depth number result }
 {
     let named = word_of_number(message, depth, number)?;
-    let used = UsedWords::at(message, named.segment, named.at)?;
+    let used = UsedWords::at(message, named.segment, named.word())?;
     first_using(message, depth, number, &used)
 }
 
@@ -99,7 +99,7 @@ fn first_using<M: Segments>(
         if at == number {
             return None;
         }
-        let WordPlace { segment, at: word } = here.place;
+        let (segment, word) = (here.place.segment, here.place.word());
         if uses_one(message, segment, word, used) {
             return Some(EarlierPointer {
                 segment,

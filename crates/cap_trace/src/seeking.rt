@@ -148,13 +148,13 @@ fn pass_nulls<M: Segments>(message: &M, most: u64, here: &mut Cursor) -> u64
     ensures passed { let m = M.segments message.now in (depth n : ℕ) (branches : List Branch) →
         IsSearch m depth n branches here.old → IsSearch m depth (n + result) branches here.new }
 {
-    let WordPlace { segment, at } = here.place;
+    let (segment, at) = (here.place.segment, here.place.word());
     let most = most.min(u64::from(here.left)) as u32;
     let mut passed = 1;
     'nulls: while passed < most && message.word(segment, at + passed) == 0 {
         passed += 1;
     }
-    here.place.at = at + passed;
+    here.place.at = u64::from(at + passed);
     here.left -= passed;
     u64::from(passed)
 }
@@ -173,7 +173,7 @@ fn look<M: Segments, const N: usize>(
     ensures { IsLooked (M.segments message.now) depth branches.old.items here.old
         branches.new.items here.new result }
 {
-    let WordPlace { segment, at } = here.place;
+    let (segment, at) = (here.place.segment, here.place.word());
     let word = message.word(segment, at);
     if word == 0 {
         return if here.left > 0 {
@@ -378,7 +378,7 @@ fn leave<const N: usize>(branches: &mut BranchStack<N>, here: &mut Cursor) -> u6
         Passes m depth n branches.new.items here.new result }
 {
     if here.left > 0 {
-        here.place.at += 1;
+        here.place.at = u64::from(here.place.word() + 1);
         here.left -= 1;
         return 1;
     }

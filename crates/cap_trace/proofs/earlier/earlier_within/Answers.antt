@@ -14,7 +14,7 @@ pub returns-in_err-used : goal.returns-in_err-used
 returns-in_err-used g c =
     subst (λ (r : Option EarlierPointer). ReportsEarlier (g.M.Segments.segments c.args.message.now) c.args.depth c.args.number r)
     (sym c.from_residual-in_err-used.ensures)
-    (λ path a. none_unused _ c.args.depth c.args.number _ c.in_ok-named.named path c.in_ok-named.ensures.some.1 a c.in_err-used.ensures)
+    (λ path a. none_unused _ c.args.depth c.args.number _ c.in_ok-named.named path c.in_ok-named.ensures.some.1 a (rw c.word.ensures at c.in_err-used.ensures))
 
 pub first_using-requires-clause-traced : goal.first_using-requires-clause-traced
 first_using-requires-clause-traced g c = (_, traceable_here _ c.args.depth c.args.number _ c.in_ok-named.named c.in_ok-named.ensures.some.1)
@@ -22,4 +22,4 @@ first_using-requires-clause-traced g c = (_, traceable_here _ c.args.depth c.arg
 pub returns : goal.returns
 returns g c =
     earlier_reported _ c.args.depth c.args.number _ c.in_ok-named.named (places_of c.in_ok-used.used) c.first_using.result
-    c.in_ok-named.ensures.some.1 c.in_ok-used.ensures c.first_using.ensures
+    c.in_ok-named.ensures.some.1 (rw c.word.ensures at c.in_ok-used.ensures) c.first_using.ensures

@@ -27,14 +27,14 @@ pub uses_one-requires-clause-exists : goal.uses_one-requires-clause-exists
 uses_one-requires-clause-exists g c = exists_here _ c.args.depth c.words.at _ c.words.here c.words.invariant.search
 
 pub uses_one-requires-clause-inside : goal.uses_one-requires-clause-inside
-uses_one-requires-clause-inside g c = inside_here _ c.args.depth c.words.at _ c.words.here c.words.invariant.search
+uses_one-requires-clause-inside g c = rw c.word-word.ensures (inside_here _ c.args.depth c.words.at _ c.words.here c.words.invariant.search)
 
 pub returns-then-uses_one : goal.returns-then-uses_one
 returns-then-uses_one g c = λ path a.
     let (steps, come, none) = c.words.invariant.none in
-    let uses = c.uses_one.ensures.0 c.if-uses_one.true in
-    first_using_here _ c.args.depth c.words.at c.args.number steps c.words.here.place (places_of c.args.used.now) path
-    come none uses (omega (arith, c.words.invariant.before, c.if-at-number.false)) a
+    let uses = rw c.word-word.ensures at c.uses_one.ensures.0 c.if-uses_one.true in
+    rw c.word-word.ensures (first_using_here _ c.args.depth c.words.at c.args.number steps c.words.here.place (places_of c.args.used.now) path
+    come none uses (omega (arith, c.words.invariant.before, c.if-at-number.false)) a)
 
 pub words-preserved : goal.words-preserved
 words-preserved g c =
@@ -48,7 +48,7 @@ words-preserved g c =
         come_here _ c.args.depth (c.words.at + 1) _ c.pass.new.here next,
         still_none _ c.args.depth c.words.at steps _ c.words.here.place c.pass.new.here.place (places_of c.args.used.now)
             come (come_here _ c.args.depth (c.words.at + 1) _ c.pass.new.here next) none
-            (λ uses. absurd (cc (sym c.if-uses_one.false ∙ c.uses_one.ensures.1 uses))),
+            (λ uses. absurd (cc (sym c.if-uses_one.false ∙ (rw c.word-word.ensures at c.uses_one.ensures.1) uses))),
       );
     }
 

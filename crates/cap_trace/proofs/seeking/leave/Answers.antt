@@ -8,7 +8,7 @@ use Rattle.cap_trace.proofs.seeking.leave.Goals as goal
 
 pub returns-then-here-gt0-clause-passed : goal.returns-then-here-gt0-clause-passed
 returns-then-here-gt0-clause-passed g c = λ m depth n h below.
-    went_on m depth n _ _ (went_onward m depth n _ _ h below (omega (arith, c.if-here-gt0.true)))
+    rw (c.from-here.ensures, c.word.ensures) (went_on m depth n _ _ (went_onward m depth n _ _ h below (omega (arith, c.if-here-gt0.true))))
 
 pub up-init : goal.up-init
 up-init g c =

@@ -17,7 +17,7 @@ nulls-preserved g c = record {
       let number : n + (c.nulls.passed + 1) ≡ n + c.nulls.passed + 1 = omega arith in
       rw (number, ← onward_more c.args.here.now c.nulls.passed)
       (past_null _ depth _ branches (onward c.args.here.now c.nulls.passed) (c.nulls.invariant.search depth n branches h)
-      (rw c.if-word-eq0.true at c.word.ensures) (omega (arith, c.nulls-test.true, c.min-most.ensures, c.from.ensures)));
+      (rw (c.if-word-eq0.true, c.word-at.ensures) at c.word.ensures) (omega (arith, c.nulls-test.true, c.min-most.ensures, c.from.ensures)));
 }
 
 pub overflow_add-at : goal.overflow_add-at
@@ -25,16 +25,16 @@ overflow_add-at g c =
     let (depth, n, branches, h) = c.requires.search in
     let m = g.M.Segments.segments c.args.message.now in
     let s = c.nulls.invariant.search depth n branches h in
-    omega (arith, inside_here m depth _ branches _ s, short_segment m c.args.here.now.place.segment (g.met.M.Segments.is_message c.args.message.now) (exists_here m depth _ branches _ s))
+    omega (arith, c.word-at.ensures, inside_here m depth _ branches _ s, short_segment m c.args.here.now.place.segment (g.met.M.Segments.is_message c.args.message.now) (exists_here m depth _ branches _ s))
 
 pub word-requires-clause-inside : goal.word-requires-clause-inside
 word-requires-clause-inside g c =
     let (depth, n, branches, h) = c.requires.search in
-    inside_here _ depth _ branches _ (c.nulls.invariant.search depth n branches h)
+    rw c.word-at.ensures (inside_here _ depth _ branches _ (c.nulls.invariant.search depth n branches h))
 
-pub overflow_add-here : goal.overflow_add-here
-overflow_add-here g c =
+pub overflow_add-at-2 : goal.overflow_add-at-2
+overflow_add-at-2 g c =
     let (depth, n, branches, h) = c.requires.search in
     let m = g.M.Segments.segments c.args.message.now in
     let s = c.nulls.invariant.search depth n branches h in
-    omega (arith, inside_here m depth _ branches _ s, short_segment m c.args.here.now.place.segment (g.met.M.Segments.is_message c.args.message.now) (exists_here m depth _ branches _ s))
+    omega (arith, c.word-at.ensures, inside_here m depth _ branches _ s, short_segment m c.args.here.now.place.segment (g.met.M.Segments.is_message c.args.message.now) (exists_here m depth _ branches _ s))
