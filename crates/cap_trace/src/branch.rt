@@ -43,6 +43,20 @@ pub(crate) struct Cursor {
     pub(crate) left: u32,
 }
 
+impl Cursor {
+    /// The same cursor, without the bytes between its fields.
+    #[inline(always)]
+    pub(crate) fn copied(&self) -> Cursor
+        ensures { result ≡ self.now }
+    {
+        let WordPlace { segment, at } = self.place;
+        Cursor {
+            place: WordPlace { segment, at },
+            left: self.left,
+        }
+    }
+}
+
 /// The pointers of an object, or the elements of a list of structs, in their order. The last one that
 /// was taken is the step of a path. Pointers have no word between them: they are a row.
 #[derive(Clone, Copy, Default)]

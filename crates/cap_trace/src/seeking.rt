@@ -127,9 +127,9 @@ pub(crate) fn pass<M: Segments, const N: usize>(
         Looked::Nothing => leave(branches, here),
         Looked::Unknown => {
             // The call gets a copy, so that the cursor itself stays in registers.
-            let mut from = *here;
+            let mut from = here.copied();
             let passed = pass_followed(message, depth, branches, &mut from);
-            *here = from;
+            *here = from.copied();
             passed
         }
     }
