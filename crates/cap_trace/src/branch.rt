@@ -21,7 +21,7 @@ pub(crate) enum Form {
 #[derive(Clone, Copy, Drop)]
 pub(crate) struct WordPlace {
     pub(crate) segment: u32,
-    // Its number has 32 bits. From 64 the processor needn't extend it before each load.
+    // Below 2^32. In 64 bits the processor needn't extend it before each load.
     pub(crate) at: u64,
 }
 
@@ -44,7 +44,7 @@ pub(crate) struct Cursor {
 }
 
 impl Cursor {
-    /// The same cursor, without the bytes between its fields.
+    /// The same cursor. The bytes between its fields aren't copied: in a loop they take registers.
     #[inline(always)]
     pub(crate) fn copied(&self) -> Cursor
         ensures { result ≡ self.now }

@@ -36,5 +36,5 @@ returns-in-Some g c =
 pub look_other-requires : goal.look_other-requires
 look_other-requires g c =
     let near = near_word (g.M.Segments.segments c.args.message.now) _ _ _ _ c.word-at.ensures c.word-word.ensures
-        (λ e. omega (arith, c.kind.ensures, c.if-kind-ne2.true, e)) in
+    (λ e. omega (arith, c.kind.ensures, c.if-kind-ne2.true, e)) in
     (search rules, (c.requires.space, (c.requires.search, near)))
