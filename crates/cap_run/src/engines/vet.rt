@@ -26,6 +26,7 @@ impl Printer for VetPrinter {
 
     ghost allocates = { λ _ _ _. AllocatesNone };
 
+    #[inline(always)]
     fn print<M: Segments, O: ByteOut>(
         &self,
         page: &mut Page,
