@@ -26,6 +26,7 @@ impl Printer for VetPrinter {
 
     ghost allocates = { λ _ _ _. AllocatesNone };
 
+    // A call would load the report from words that were just stored at other boundaries, and wait.
     #[inline(always)]
     fn print<M: Segments, O: ByteOut>(
         &self,
