@@ -117,6 +117,9 @@ pub(crate) fn refused_for(refusal: &StrictRefusal) -> Refused
 /// # Errors
 ///
 /// The error of the output, which took a prefix of the line.
+// It is inlined, since a call needs the refusal in memory. `check` would copy the unused bytes of
+// one for each accepted message too.
+#[inline(always)]
 pub fn write_refused<O: ByteOut>(
     page: &mut Page,
     out: &mut O,
