@@ -8,35 +8,48 @@ use Rattle.cap_vet.specs.declared.walk.looking.Looked.TheVariants.{Null}
 use Rattle.cap_vet.proofs.Runs.{rest_of_row}
 use Rattle.cap_vet.proofs.Stacks.{next_seen, walks_on, work_smaller}
 
--- after the first of several words in a row
-abbrev pub after : PointerRun → PointerRun
-after f = record { segment = f.segment; at = f.at + 1; left = f.left - 1; more = f.more; data_words = f.data_words; pointers = f.pointers; level = f.level }
+-- after the first n of several words in a row
+abbrev pub onward : PointerRun → ℕ → PointerRun
+onward f n = record { segment = f.segment; at = f.at + n; left = f.left - n; more = f.more; data_words = f.data_words; pointers = f.pointers; level = f.level }
 
--- with one pointer word more
-abbrev pub counted : Report → Report
-counted r = record { charge = r.charge; depth = r.depth; pointers = r.pointers + 1; caps = r.caps; first_cap = r.first_cap }
+-- with n pointer words more
+abbrev pub counted : Report → ℕ → Report
+counted r n = record { charge = r.charge; depth = r.depth; pointers = r.pointers + n; caps = r.caps; first_cap = r.first_cap }
+
+pub onward_more : (f : PointerRun) (n : ℕ) → onward (onward f n) 1 ≡ onward f (n + 1)
+onward_more f n =
+    let at : f.at + n + 1 ≡ f.at + (n + 1) = omega arith in
+    let left : f.left - n - 1 ≡ f.left - (n + 1) = omega arith in rw (at, left) refl
+
+pub counted_more : (r : Report) (n : ℕ) → counted (counted r n) 1 ≡ counted r (n + 1)
+counted_more r n = let pointers : r.pointers + n + 1 ≡ r.pointers + (n + 1) = omega arith in rw pointers refl
+
+-- no word is passed at first
+pub passes_none : (m : List (List ℕ)) (words depth : ℕ) (runs : List PointerRun) (seen : List (List Step)) (f : PointerRun) (r : Report) (ahead : List Ahead)
+    → HasWalked m words depth (runs ++ f ∷ []) r seen ahead → Passes m words depth runs seen f r f r
+passes_none m words depth runs seen f r ahead w = record { nulls = []; later = ahead; are_null = tt; walks = w; less = omega arith }
 
 -- one null word is one turn
 pub passes_on : (m : List (List ℕ)) (words depth : ℕ) (runs : List PointerRun) (seen : List (List Step)) (old f : PointerRun) (before r : Report) → 1 < f.left
     → HasWord m f.segment f.at 0
-    → Passes m words depth runs seen old before f r → Passes m words depth runs seen old before (after f) (counted r)
+    → Passes m words depth runs seen old before f r → Passes m words depth runs seen old before (onward f 1) (counted r 1)
 passes_on m words depth runs seen old f before r left null passed =
-    let rest : IsRest f (Some (after f)) = rest_of_row f.segment f.at f.more f.data_words f.pointers f.level left in
+    let rest : IsRest f (Some (onward f 1)) = rest_of_row f.segment f.at f.more f.data_words f.pointers f.level left in
     let (next, same_seen) = next_seen runs passed.walks rest in
     let looked : IsLooked m words depth r.charge f.segment f.at f.level (Null 0) = (near 0 null (omega arith) refl refl, omega (arith, next.progress.within)) in
-    let (later, turned) = walks_on m words depth f.segment f.at f.level (runs ++ after f ∷ []) r (Null 0) next looked in
+    let (later, turned) = walks_on m words depth f.segment f.at f.level (runs ++ onward f 1 ∷ []) r (Null 0) next looked in
     let same : r.charge + 0 ≡ r.charge = omega arith in
-    let e : added r f.segment f.at (Null 0) ≡ counted r = rw same refl in
-    let stack : (runs ++ after f ∷ []) ++ [] ≡ runs ++ after f ∷ [] = append-nil (runs ++ after f ∷ []) in
-    let walks : HasWalked m words depth (runs ++ after f ∷ []) (counted r) (next.a.path ∷ next.seen) later =
-    subst (λ u. HasWalked m words depth (runs ++ after f ∷ []) u (next.a.path ∷ next.seen) later) e
+    let e : added r f.segment f.at (Null 0) ≡ counted r 1 = rw same refl in
+    let stack : (runs ++ onward f 1 ∷ []) ++ [] ≡ runs ++ onward f 1 ∷ [] = append-nil (runs ++ onward f 1 ∷ []) in
+    let walks : HasWalked m words depth (runs ++ onward f 1 ∷ []) (counted r 1) (next.a.path ∷ next.seen) later =
+    subst (λ u. HasWalked m words depth (runs ++ onward f 1 ∷ []) u (next.a.path ∷ next.seen) later) e
     (subst (λ u. HasWalked m words depth u (added r f.segment f.at (Null 0)) (next.a.path ∷ next.seen) later) stack turned) in
-    let smaller : work_left words (runs ++ after f ∷ []) (counted r) < work_left words (runs ++ f ∷ []) r =
-    work_smaller words runs (runs ++ after f ∷ []) f (Some (after f)) r (counted r) rest (omega arith) in record {
+    let smaller : work_left words (runs ++ onward f 1 ∷ []) (counted r 1) < work_left words (runs ++ f ∷ []) r =
+    work_smaller words runs (runs ++ onward f 1 ∷ []) f (Some (onward f 1)) r (counted r 1) rest (omega arith) in record {
       nulls = next.a.path ∷ passed.nulls;
       later = later;
       are_null = ((next.a.level, next.a.segment, next.a.word, next.progress.trail.ahead_reached.0, rw (next.segment, next.at) null), passed.are_null);
-      walks = subst (λ u. HasWalked m words depth (runs ++ after f ∷ []) (counted r) (next.a.path ∷ u) later) same_seen walks;
+      walks = subst (λ u. HasWalked m words depth (runs ++ onward f 1 ∷ []) (counted r 1) (next.a.path ∷ u) later) same_seen walks;
       less = omega (arith, passed.less, smaller);
     }
 

@@ -303,13 +303,19 @@ fn pass_nulls<M: Segments>(message: &M, run: &mut PointerRun, report: &mut Repor
         (seen : List (List Step)) (a : List Ahead) → HasWalked m w d (rs ++ run.old ∷ []) report.old seen a →
         Passes m w d rs seen run.old report.old run.new report.new }
 {
-    'nulls: while run.left > 1 && message.word(run.segment, run.at) == 0 {
-        // The count stays below the charge, a number of 64 bits.
-        let _charge = report.charge;
-        run.at += 1;
-        run.left -= 1;
-        report.pointers += 1;
+    if run.left < 2 || message.word(run.segment, run.at) != 0 {
+        return;
     }
+    let (segment, at, most) = (run.segment, run.at, run.left - 1);
+    let mut passed = 1;
+    'nulls: while passed < most && message.word(segment, at + passed) == 0 {
+        passed += 1;
+    }
+    // The count stays below the charge, a number of 64 bits.
+    let _charge = report.charge;
+    run.at += passed;
+    run.left -= passed;
+    report.pointers += u64::from(passed);
 }
 
 // Goes on after the first word of the run, first with the run below that word.
