@@ -209,6 +209,8 @@ pub(crate) fn start_of(place: u32, word: u64) -> Option<u64>
 }
 
 // The target of the word `word` of a list of structs, whose words lie inside their segment.
+// Inlined: as a call it writes its result in pieces, and its caller waits for them.
+#[inline(always)]
 fn composite<M: Segments>(
     message: &M,
     pads: u8,
