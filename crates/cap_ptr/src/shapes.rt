@@ -209,7 +209,7 @@ pub(crate) fn start_of(place: u32, word: u64) -> Option<u64>
 }
 
 // The target of the word `word` of a list of structs, whose words lie inside their segment.
-// Inlined: as a call it writes its result in pieces, and its caller waits for them.
+// It is inlined, since a call writes its result in pieces, and its caller waits for them.
 #[inline(always)]
 fn composite<M: Segments>(
     message: &M,

@@ -1,6 +1,6 @@
 -- What the end of a path says of the pointers on it.
-use Rattle.cap_spec.proofs.ProofNames.{Bool, List, None, Option, false, length, refl, subst, sym, true, ℕ, ◌++◌, ◌-◌}
-use Rattle.cap_spec.proofs.ProofNames.{◌∷◌, ◌≡◌, ◌≤◌, PathFinds, AreOnPath, Charges, IsStartOf, Spot, IsLax, rules}
+use Rattle.cap_spec.proofs.ProofNames.{Bool, List, None, Option, false, length, refl, subst, sym, true, ℕ, ◌-◌}
+use Rattle.cap_spec.proofs.ProofNames.{◌≡◌, ◌≤◌, PathFinds, AreOnPath, Charges, IsStartOf, Spot, IsLax, rules}
 use Rattle.cap_spec.proofs.Verdicts.OnPath.{on_no_node}
 use Rattle.cap_vet.specs.Charging.{EndsAt}
 use Rattle.cap_vet.specs.VetNames.{Kind, Step, StrictRefusal, Arrives, EndsEarly, words_under, IsPathFault}

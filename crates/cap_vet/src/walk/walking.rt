@@ -307,6 +307,7 @@ fn pass_nulls<M: Segments>(message: &M, run: &mut PointerRun, report: &mut Repor
         return;
     }
     let (segment, at, most) = (run.segment, run.at, run.left - 1);
+    // One number counts in the loop, so that a null word takes few instructions.
     let mut passed = 1;
     'nulls: while passed < most && message.word(segment, at + passed) == 0 {
         passed += 1;

@@ -1,6 +1,5 @@
 use Rattle.std.proofs.Common.{arith, rules}
-use Rattle.cap_spec.proofs.Frames.Messages.{short_segment}
-use Rattle.cap_vet.proofs.Passing.{counted, counted_more, onward, onward_more, passes_none, passes_on, topmost_few, topmost_in}
+use Rattle.cap_vet.proofs.Passing.{counted, counted_more, onward, onward_more, passes_none, passes_on, topmost_few}
 use Rattle.cap_vet.proofs.walk.walking.pass_nulls.Goals as goal
 
 pub nulls-init : goal.nulls-init

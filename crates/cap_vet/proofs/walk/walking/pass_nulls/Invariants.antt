@@ -1,4 +1,4 @@
-use Rattle.std.proofs.Common.{List, [], ℕ, ◌++◌, ◌+◌, ◌-◌, ◌≤◌, ◌∷◌}
+use Rattle.std.proofs.Common.{List, [], ℕ, ◌++◌, ◌-◌, ◌≤◌, ◌∷◌}
 use Rattle.cap_vet.specs.VetNames.{Step, Passes, Ahead, HasWalked, PointerRun}
 use Rattle.cap_vet.proofs.Passing.{counted, onward}
 use Rattle.cap_vet.proofs.walk.walking.pass_nulls.Given as goal

@@ -1,7 +1,7 @@
 -- The element is where its number says.
 use Rattle.cap_vet.proofs.ElementWays.{element_given, element_small, element_within}
 use Rattle.cap_vet.proofs.nodes.struct_elements.StructElements.element.Goals as goal
-use Rattle.cap_spec.proofs.ProofNames.{rules, arith, ℕ, ◌<◌}
+use Rattle.cap_spec.proofs.ProofNames.{rules, arith, ◌<◌}
 
 pub returns-clause-given : goal.returns-clause-given
 returns-clause-given g c = λ start are.

@@ -1,5 +1,5 @@
 use Rattle.cap_spec.proofs.Paths.Arrivals.{coming_to_node}
-use Rattle.cap_spec.proofs.ProofNames.{arith, get_or, length, subst, take, take_all, ◌<◌, ◌≡◌, split_at, take_more}
+use Rattle.cap_spec.proofs.ProofNames.{arith, get_or, length, subst, take, take_all, ◌<◌, split_at, take_more}
 use Rattle.cap_spec.proofs.ProofNames.{Spot, StepsTo, rules}
 use Rattle.cap_vet.specs.VetNames.{Ptr, message_of, node_spot}
 use Rattle.cap_vet.proofs.NodeSteps.{comes_no_node, comes_on, no_node}

@@ -1,4 +1,4 @@
-use Rattle.cap_spec.proofs.ProofNames.{rules, ℕ}
+use Rattle.cap_spec.proofs.ProofNames.{rules}
 use Rattle.cap_vet.proofs.Views.{shown_byte, shown_no_byte}
 use Rattle.cap_vet.proofs.nodes.view.View.byte.Goals as goal
 
