@@ -11,5 +11,7 @@ pub mod PuttingEach
 pub mod Tags
 pub mod Runs
 pub mod Shuffles
+pub mod Moving
+pub mod WordTags
 pub mod GroupsEncoded
 pub mod GroupTexts

@@ -96,11 +96,11 @@ same_from_test : (s t : Bool) → same_test s t ≡ true → s ≡ t
 unfolding same_test
 same_from_test x u e = search (rules, false≢true)
 
-each_below : (ℕ → Bool) → ℕ → Bool
+unfoldable pub each_below : (ℕ → Bool) → ℕ → Bool
 each_below p zero = true
 each_below p (suc n) = p n && each_below p n
 
-one_below : (p : ℕ → Bool) (n : ℕ) → each_below p n ≡ true → (t : ℕ) → t < n → p t ≡ true
+pub one_below : (p : ℕ → Bool) (n : ℕ) → each_below p n ≡ true → (t : ℕ) → t < n → p t ≡ true
 unfolding each_below
 one_below p zero e t l = absurd (omega arith)
 one_below p (suc n) e t l =
@@ -122,7 +122,7 @@ bits_after x t = search rules
 zero_or_set : (z : Bool) → cond z 1 0 + cond z 0 1 ≡ 1
 zero_or_set x = search rules
 
-zeros_and_marks : (bs : List ℕ) → zeros_in bs + marks (length bs) (tag_of bs) ≡ length bs
+pub zeros_and_marks : (bs : List ℕ) → zeros_in bs + marks (length bs) (tag_of bs) ≡ length bs
 zeros_and_marks [] = refl
 zeros_and_marks (b ∷ bs) = search (rules, low_bit, bits_after, zero_or_set, zeros_and_marks bs)
 

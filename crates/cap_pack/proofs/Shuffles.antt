@@ -2,13 +2,14 @@
 use Rattle.std.proofs.Common.{T, add-zero}
 use Rattle.std.proofs.lemmas.List.Sums.{length-filter}
 use Rattle.std.proofs.lemmas.Simd.{SwzOk, SwzOk-from_Each1, ones-mask_l, swz_l}
-use Rattle.cap_spec.proofs.ProofNames.{Bool, List, [], add-one, ap, arith, cond, drop, eqb, eqb-true, false, filter}
+use Rattle.cap_spec.proofs.ProofNames.{Bool, List, [], add-one, ap, arith, cond, drop, eqb, eqb-true, filter}
 use Rattle.cap_spec.proofs.ProofNames.{get_or, get_or-drop, leb, length, length-append, lt-ltb, ltb, map}
 use Rattle.cap_spec.proofs.ProofNames.{not, refl, replicate, subst, suc, sym, take, true, w8, zero, zero-add, ℕ, ◌%◌, ◌&&◌}
 use Rattle.cap_spec.proofs.ProofNames.{◌*◌, ◌++◌, ◌+◌, ◌-◌, ◌/◌, ◌<◌, ◌==◌, ◌||◌, ◌∙◌, ◌∷◌, ◌≡◌, ◌≤◌, take-append_seam}
 use Rattle.cap_spec.proofs.ProofNames.{and_parts, lt-leb, length-map, length-replicate, map-append, Each1}
 use Rattle.cap_spec.proofs.ProofNames.{number_l, little_number, ones, tag_of, zero_bytes, zeros_in, word_bytes, marks}
 use Rattle.cap_spec.proofs.ProofNames.{spread, rules}
+use Rattle.cap_pack.specs.Moves.{same_list}
 use Rattle.cap_pack.specs.Places.{marked_from, spread_from, spread_row, squeeze_row}
 use Rattle.cap_pack.proofs.Runs.{bits_after, low_bit}
 use Rattle.cap_pack.proofs.Tags.{eight_number, mask_is_tag, word_tag}
@@ -18,35 +19,31 @@ marks-le : (n tag : ℕ) → marks n tag ≤ n
 marks-le zero tag = omega arith
 marks-le (suc n) tag = let rest = marks-le n (tag / 2) in omega arith
 
--- whether lists are the same
-abbrev same_list : List ℕ → List ℕ → Bool
-same_list [] [] = true
-same_list [] (y ∷ ys) = false
-same_list (x ∷ xs) [] = false
-same_list (x ∷ xs) (y ∷ ys) = eqb x y && same_list xs ys
-
-same_from_test : (xs ys : List ℕ) → same_list xs ys ≡ true → xs ≡ ys
+pub same_from_test : (xs ys : List ℕ) → same_list xs ys ≡ true → xs ≡ ys
 same_from_test (x ∷ xs) (y ∷ ys) e =
     let both = and_parts (eqb x y) (same_list xs ys) e in
     ap (λ z. z ∷ xs) (eqb-true x y both.0) ∙ ap (λ zs. y ∷ zs) (same_from_test xs ys both.1)
 same_from_test xs ys e = search rules
 
--- whether each row of a table is that of its number
-abbrev pub rows_are : (ℕ → List ℕ) → ℕ → List (List ℕ) → Bool
-rows_are f t [] = true
-rows_are f t (row ∷ rows) = same_list row (f t) && rows_are f (t + 1) rows
+-- whether each row of a table passes a test with its number
+abbrev pub each_row : (ℕ → List ℕ → Bool) → ℕ → List (List ℕ) → Bool
+each_row p t [] = true
+each_row p t (row ∷ rows) = p t row && each_row p (t + 1) rows
 
-row_at : (f : ℕ → List ℕ) (t : ℕ) (rows : List (List ℕ)) → rows_are f t rows ≡ true → (i : ℕ) → i < length rows → get_or rows i [] ≡ f (t + i)
-row_at f t (row ∷ rows) e (suc i) l =
+row_at : (p : ℕ → List ℕ → Bool) (t : ℕ) (rows : List (List ℕ)) → each_row p t rows ≡ true → (i : ℕ) → i < length rows → p (t + i) (get_or rows i []) ≡ true
+row_at p t (row ∷ rows) e (suc i) l =
     let next : t + 1 + i ≡ t + suc i = omega arith in
-    row_at f (t + 1) rows (and_parts (same_list row (f t)) (rows_are f (t + 1) rows) e).1 i (omega arith) ∙ ap f next
-row_at f t rows e i l = search (rules, same_from_test, and_parts, same_list, rows_are, add-zero)
+    ap (λ n. p n (get_or rows i [])) (sym next) ∙ row_at p (t + 1) rows (and_parts (p t row) (each_row p (t + 1) rows) e).1 i (omega arith)
+row_at p t rows e i l = search (rules, and_parts, each_row, add-zero)
 
-pub row_of : (f : ℕ → List ℕ) (rows : List (List ℕ)) → rows_are f 0 rows ≡ true → (i : ℕ) → i < length rows → get_or rows i [] ≡ f i
-row_of f rows e i l = row_at f 0 rows e i l ∙ ap f (zero-add i)
+pub row_passes : (p : ℕ → List ℕ → Bool) (rows : List (List ℕ)) → each_row p 0 rows ≡ true → (i : ℕ) → i < length rows → p i (get_or rows i []) ≡ true
+row_passes p rows e i l = ap (λ n. p n (get_or rows i [])) (sym (zero-add i)) ∙ row_at p 0 rows e i l
+
+pub row_of : (f : ℕ → List ℕ) (rows : List (List ℕ)) → each_row (λ t row. same_list row (f t)) 0 rows ≡ true → (i : ℕ) → i < length rows → get_or rows i [] ≡ f i
+row_of f rows e i l = same_from_test _ _ (row_passes (λ t row. same_list row (f t)) rows e i l)
 
 -- what a lane gets for its place
-abbrev pick : List ℕ → ℕ → ℕ
+abbrev pub pick : List ℕ → ℕ → ℕ
 pick xs j = cond (leb 128 j) 0 (get_or xs j 0)
 
 shuffled : (xs js : List ℕ) (i : ℕ) → i + length js ≤ 16 → swz_l w8 16 xs i js ≡ map (pick xs) js
@@ -54,14 +51,14 @@ shuffled xs [] i h = refl
 shuffled xs (j ∷ js) i h = search (rules, swz_l, pick, shuffled xs js (suc i) (omega arith))
 
 -- a place below 128 gets the byte there
-picked : (xs : List ℕ) (k : ℕ) → k < 128 → pick xs k ≡ get_or (drop k xs) 0 0
+pub picked : (xs : List ℕ) (k : ℕ) → k < 128 → pick xs k ≡ get_or (drop k xs) 0 0
 picked xs k h = search (rules, lt-leb, get_or-drop, add-zero)
 
 drop_more : (n : ℕ) (l : List ℕ) → drop 1 (drop n l) ≡ drop (suc n) l
 drop_more (suc n) (x ∷ l) = drop_more n l
 drop_more n l = refl
 
-drop_next : (k : ℕ) (xs : List ℕ) → drop (k + 1) xs ≡ drop 1 (drop k xs)
+pub drop_next : (k : ℕ) (xs : List ℕ) → drop (k + 1) xs ≡ drop 1 (drop k xs)
 drop_next k xs = ap (λ i. drop i xs) (add-one k) ∙ sym (drop_more k xs)
 
 -- a place that a lane may have
@@ -107,7 +104,7 @@ spread_one : (n up k : ℕ) (xs : List ℕ) (r : ℕ) → r < 2 → k < 128 → 
     ≡ cond (eqb r 0) (256 * spread n up (drop k xs)) (get_or (drop k xs) 0 0 + 256 * spread n up (drop 1 (drop k xs)))
 spread_one n up k xs r h l = search (rules, zero-add, add-zero, picked, drop_next)
 
-spread_picked : (n tag k : ℕ) (xs : List ℕ) → k + n ≤ 128 → number_l 256 (map (pick xs) (spread_from n tag k)) ≡ spread n tag (drop k xs)
+pub spread_picked : (n tag k : ℕ) (xs : List ℕ) → k + n ≤ 128 → number_l 256 (map (pick xs) (spread_from n tag k)) ≡ spread n tag (drop k xs)
 spread_picked zero tag k xs h = refl
 spread_picked (suc n) tag k xs h = search (rules, spread_one, spread_step, spread_picked n (tag / 2) (k + tag % 2) xs (omega arith))
 
@@ -131,11 +128,11 @@ spread_with_zeros : (n tag m : ℕ) (bs : List ℕ) → spread n tag (bs ++ repl
 spread_with_zeros (suc n) tag m (b ∷ bs) = search (rules, spread_with_zeros n (tag / 2) m (b ∷ bs), spread_with_zeros n (tag / 2) m bs)
 spread_with_zeros n tag m bs = search (rules, zeros_spread)
 
-clear_bit : (z : Bool) → eqb (cond z 0 1) 0 ≡ z
+pub clear_bit : (z : Bool) → eqb (cond z 0 1) 0 ≡ z
 clear_bit x = search rules
 
 -- the bytes that aren't zero
-abbrev present : List ℕ → List ℕ
+abbrev pub present : List ℕ → List ℕ
 present bs = filter (λ b. not (b == 0)) bs
 
 marked_first : (z : Bool) (n t k : ℕ) → marked_from (suc n) (cond z 0 1 + 2 * t) k ≡ cond z [] (k ∷ []) ++ marked_from n t (k + 1)
@@ -173,7 +170,7 @@ length_marked : (n tag k : ℕ) → length (marked_from n tag k) ≡ marks n tag
 length_marked zero tag k = refl
 length_marked (suc n) tag k = search (rules, length_first, length_marked n (tag / 2) (k + 1))
 
-length_row : (tag : ℕ) → length (squeeze_row tag) ≡ 8
+pub length_row : (tag : ℕ) → length (squeeze_row tag) ≡ 8
 length_row tag =
     let few = marks-le 8 tag in
     length-append (marked_from 8 tag 0) (replicate (8 - marks 8 tag) 128)
@@ -188,7 +185,7 @@ squeeze_ok row lanes tag e f =
     let each : Each1 IsPlace (squeeze_row tag ++ replicate 8 128) = search (rules, each_append, squeeze_places, no_places) in
     subst (λ js. SwzOk w8 16 16 0 js) (sym all) (SwzOk-from_Each1 w8 16 1 16 0 (squeeze_row tag ++ replicate 8 128) refl (omega (arith, length_lanes tag)) each)
 
-none_picked : (xs : List ℕ) (n : ℕ) → map (pick xs) (replicate n 128) ≡ replicate n 0
+pub none_picked : (xs : List ℕ) (n : ℕ) → map (pick xs) (replicate n 128) ≡ replicate n 0
 none_picked xs zero = refl
 none_picked xs (suc n) = ap (λ l. 0 ∷ l) (none_picked xs n)
 
@@ -196,15 +193,20 @@ none_picked xs (suc n) = ap (λ l. 0 ∷ l) (none_picked xs n)
 low_lanes : (low above : List ℕ) → length low ≡ 8 → take 8 (low ++ above) ≡ low
 low_lanes low above e = ap (λ n. take n (low ++ above)) (sym e) ∙ take-append_seam low above
 
+-- a row picks the bytes that aren't zero, and zeros after them
+pub row_picked : (word xs ys : List ℕ) (tag : ℕ) → length word ≡ 8 → xs ≡ word ++ ys → tag ≡ tag_of word →
+    map (pick xs) (squeeze_row tag) ≡ present word ++ replicate (8 - marks 8 tag) 0
+row_picked word xs ys tag l e t =
+    map-append (pick xs) (marked_from 8 tag 0) (replicate (8 - marks 8 tag) 128)
+    ∙ ap (λ front. front ++ map (pick xs) (replicate (8 - marks 8 tag) 128))
+    ((search (rules, pick xs, marked_picked word xs ys 0 e (omega arith))))
+    ∙ ap (λ zeros. present word ++ zeros) (none_picked xs (8 - marks 8 tag))
+
 pub squeeze_by_places : (word xs row lanes : List ℕ) (tag : ℕ) → length word ≡ 8 → xs ≡ word ++ replicate 8 0 → tag ≡ tag_of word → row ≡ squeeze_row tag →
     lanes ≡ row ++ replicate 8 128 → take 8 (swz_l w8 16 xs 0 lanes) ≡ present word ++ replicate (8 - marks 8 tag) 0
 squeeze_by_places word xs row lanes tag l e t r f =
     let all : lanes ≡ squeeze_row tag ++ replicate 8 128 = f ∙ ap (λ js. js ++ replicate 8 128) r in
-    let low : map (pick xs) (squeeze_row tag) ≡ present word ++ replicate (8 - marks 8 tag) 0 =
-    map-append (pick xs) (marked_from 8 tag 0) (replicate (8 - marks 8 tag) 128)
-    ∙ ap (λ front. front ++ map (pick xs) (replicate (8 - marks 8 tag) 128))
-    ((search (rules, pick xs, marked_picked word xs (replicate 8 0) 0 e (omega arith))))
-    ∙ ap (λ zeros. present word ++ zeros) (none_picked xs (8 - marks 8 tag)) in
+    let low : map (pick xs) (squeeze_row tag) ≡ present word ++ replicate (8 - marks 8 tag) 0 = row_picked word xs (replicate 8 0) tag l e t in
     search (rules, swz_l, shuffled, length_lanes, map-append, pick, low_lanes, length-map, length_row)
 
 -- the number of bits that are set

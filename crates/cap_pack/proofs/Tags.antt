@@ -53,7 +53,7 @@ pub eight_number : (ts : List ℕ) → length ts ≡ 8 → number_l 256 ts ≡ l
 eight_number (a ∷ b ∷ c ∷ d ∷ e ∷ f ∷ g ∷ h ∷ []) l = refl
 eight_number ts l = absurd (omega (arith, l))
 
-tags_back : (ts : List ℕ) → AllByRecursion (λ t. t < 256) ts → length ts ≡ 8 → word_bytes (number_l 256 ts) ≡ ts
+pub tags_back : (ts : List ℕ) → AllByRecursion (λ t. t < 256) ts → length ts ≡ 8 → word_bytes (number_l 256 ts) ≡ ts
 tags_back ts fit l = search (rules, bytes_back, eight_number)
 
 -- whether a lane is a byte that isn't zero

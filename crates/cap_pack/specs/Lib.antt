@@ -7,3 +7,4 @@ pub mod Output
 pub mod State
 pub mod Places
 pub mod GroupTexts
+pub mod Moves

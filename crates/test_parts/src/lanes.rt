@@ -2,6 +2,7 @@
 //! kernels.
 
 use crate::same::same;
+use cap_pack::lanes::scalars::{fulls_of_eights, scatter, squeezed, tag_of_word, zeros_of_eights};
 use cap_pack::lanes::{gather, tags};
 
 // The two words of the example. Packed they are 51 08 03 02 31 19 aa 01.
@@ -42,4 +43,23 @@ fn gather_leaves_zero_bytes_out(rt: HostRuntime) {
     same(&rt, &given[..], &[0; 8][..]);
     same(&rt, gather(u64::MAX, &mut given), 8);
     same(&rt, &given[..], &[0xff; 8][..]);
+}
+
+#[test]
+fn kernels_without_vectors_give_the_same(rt: HostRuntime) {
+    let mut i = 0;
+    while i < 9 {
+        let tag = tag_of_word(WORDS[i]);
+        same(&rt, tag, TAGS[i]);
+        let present = squeezed(tag, WORDS[i]);
+        let mut gathered = [0; 8];
+        let _count = gather(WORDS[i], &mut gathered);
+        same(&rt, &present[..], &gathered[..]);
+        same(&rt, scatter(tag, &present), WORDS[i]);
+        i += 1;
+    }
+    // whole eights alone are counted
+    same(&rt, zeros_of_eights(&[0; 17]), 16);
+    same(&rt, fulls_of_eights(&[0x0001_0101_0101_0101; 17]), 16);
+    same(&rt, fulls_of_eights(&[0x0000_0101_0101_0101; 8]), 0);
 }
