@@ -11,7 +11,7 @@ use cap_pack::Unpacker;
 use cap_words::{SliceIn, WordSource};
 
 /// The longest packed text that is unpacked, in bytes.
-const MOST_PACKED: usize = 9007199254740992;
+const MOST_PACKED: u64 = 9007199254740992;
 
 /// Unpacks all the bytes to the start of `out`, eight bytes a word, the lowest first (encoding:
 /// Packing, 64-bit Words). It looks at no framing. Allocates nothing.
@@ -38,13 +38,15 @@ fn unpack_all(bytes: &[u8], out: &mut [u8], required: &mut usize) -> Answer
     ensures { ReportsUnpack bytes.now out.old result required.new out.new }
 {
     *required = 0;
-    if bytes.len() > MOST_PACKED {
+    if bytes.len() as u64 > MOST_PACKED {
         return Answer::TooLarge;
     }
     let Some(words) = unpacked_words(bytes) else {
         return Answer::Truncated;
     };
-    let count = 8 * words as usize;
+    let Ok(count) = usize::try_from(8 * words) else {
+        return Answer::TooLarge;
+    };
     *required = count;
     if out.len() < count {
         return Answer::BufferTooSmall;
