@@ -134,7 +134,8 @@ typedef char capvet_needs_64_bits[sizeof(size_t) == 8 ? 1 : -1];
 #define CAPVET_VERSION_MINOR 1
 #define CAPVET_VERSION_PATCH 0
 
-/* The version of this header: the number that capvet_version returns for it, for `#if`, and a text. */
+/* The version of this header: the number that capvet_version returns for it, for `#if`, and a text. While a version is
+ * not released, `capvet --version` adds "-dev" to it. */
 #define CAPVET_VERSION (CAPVET_VERSION_MAJOR * 65536 + CAPVET_VERSION_MINOR * 256 + CAPVET_VERSION_PATCH)
 #define CAPVET_VERSION_STRING "1.1.0"
 
@@ -571,8 +572,16 @@ typedef struct capvet_node {
  * p leads from a struct to one of its pointers, and i from a list of pointers or structs to an element. Numbers
  * are decimal, without leading zeros. After /p they are at most 65535, after /i at most 4294967295.
  *
- * Returns CAPVET_OK, or CAPVET_NO_NODE if the path leads to nothing. A reader with a schema takes both
- * CAPVET_NO_NODE and a null node as the field's default. CAPVET_BAD_PATH: not a path, or a greater number.
+ * Returns CAPVET_OK, or CAPVET_NO_NODE if the path leads to nothing. CAPVET_BAD_PATH: not a path, or a greater
+ * number.
+ *
+ * NOTHING AT A PATH IS NOT ALWAYS THE FIELD'S DEFAULT. A null node means the default. CAPVET_NO_NODE means it
+ * only if each node before it on the path is null or of the kind that the schema has. Readers also take lists
+ * of other kinds, and the sender chooses. libcapnp 0.9.2 reads a list of pointers, or of values of 8 to 64
+ * bits, as a list of structs. It reads a list of structs as a list of pointers or of values. Paths lead to
+ * nothing there: docs/format.md has a table. So get the node of each list first, and refuse another kind. A
+ * list of structs has `count` elements of `pointers` pointers each. A field at a greater number has its default
+ * in all of them: the sender's schema is older.
  *
  * ONLY THE POINTERS ON THE PATH ARE CHECKED. What is wrong on the path gives the answer that capvet_vet has
  * for it; what is wrong next to the path is not noticed. Their charges count, the root's among them. For a
@@ -614,9 +623,12 @@ typedef struct capvet_step {
  *
  * Returns CAPVET_OK if all nodes were filled in. The limits, the steps and the frame are checked first, also
  * with node_count 0. After these the answer and the report are about the first path without a node.
- * CAPVET_NO_NODE: it is after the last element, or below a null one. Other answers: something on it is wrong.
- * To skip that path, add *found + 1 to the step's number, and call again. Nodes after the first *found are
- * unchanged.
+ * Other answers than CAPVET_NO_NODE: something on it is wrong. Nodes after the first *found are unchanged.
+ *
+ * CAPVET_NO_NODE does not say that there are no more elements. The path is after the last one or below a null
+ * one, the elements have no such pointer, or the list is of another kind. So get the node of the list first, as
+ * for capvet_get, and stop at its `count`. To skip a path, add *found + 1 to the step's number, and call again
+ * below that.
  *
  * CAPVET_BAD_PATH: report->detail is the index of the first step of an unknown kind. If every kind is known,
  * it is step_count, and `varying` is not less than that.

@@ -33,7 +33,7 @@ from pathlib import Path
 import connections
 import install
 import needs
-from harness import PROGRAM, TOP, compare, ended, run
+from harness import PROGRAM, TOP, compare, ended, framed, run
 from install import make
 from needs import missing
 
@@ -43,6 +43,25 @@ CARGO = ("--offline", "--quiet")
 STRICT = ("-Wall", "-Wextra", "-pedantic", "-Werror")
 # Messages, each with the canonical words of its content, as Cap'n Proto's own tools write them.
 COPIES = (("contacts.bin", "contacts.bin"), ("contacts-many-segments.bin", "contacts.bin"), ("telemetry.bin", "telemetry.bin"))
+# Messages, each with the names that the programs of the pages print. None says that they refuse it.
+NAMES = {
+    "contacts.bin": ["fjord Ω Grüße lantern Grüße", "", "", "señal harbor thicket lantern fjord", "señal salt", "",
+                     "lantern thicket 北京 zephyr"],
+    "readers/people-without-names.bin": ["", ""],
+    "readers/tags-as-structs.bin": [],
+    "readers/people-as-texts.bin": None,
+    "readers/people-as-numbers.bin": None,
+}
+# What comes after the blocks of Rust of docs/in-process.md: a program over the third of them.
+NAMED = """\
+fn main() {{
+    let file = std::env::args().nth(1).unwrap();
+    match block2::names(&std::fs::read(file).unwrap()) {{
+        Ok(names) => names.iter().for_each(|name| println!("{{name}}")),
+        Err(_) => println!("refused"),
+    }}
+}}
+"""
 SERVED = """\
 accepted, 391 words in libcapnp
 refused DepthLimit at 0:0 pointers 65
@@ -198,12 +217,15 @@ def routed(name, program, folder):
     stream, found = folder / "stream", folder / "found"
     found.mkdir()
     contacts = (TOP / "examples/contacts.bin").read_bytes()
-    # (without an owner, with one that has no data, with a job of a later schema, and with a pointer out of the segment)
+    # (without an owner, with one that has no data, and with a job of a later schema)
     messages = [("employer.bin", book(1, 0)), ("employer-tagged.bin", book(1, 2)), ("none.bin", book(0, 0)),
                 ("school-tagged.bin", book(2, 1)), ("self.bin", book(3, 0)), ("other.bin", book(4, 0)),
                 ("other-tagged.bin", book(0x8001, 3)), ("none.bin", book(1, 0, 0)), ("none-tagged.bin", book(1, 2, 1 << 2)),
                 ("employer-tagged.bin", contacts)]
-    refused = [("refused.bin", book(1, 0, 1000 << 2 | 1 << 32)), ("self.bin", book(3, 0))]
+    # (with a pointer out of the segment, with tags that are structs, with a list as the owner, and with a list as the root)
+    refused = [("refused.bin", book(1, 0, 1000 << 2 | 1 << 32)), ("self.bin", book(3, 0)),
+               ("refused.bin", (TOP / "examples/readers/tags-as-structs.bin").read_bytes()),
+               ("refused.bin", book(1, 0, 1 | 2 << 32)), ("refused.bin", framed("0100000007000000 0000000000000000"))]
     for part, status in ((messages, 0), (messages + refused, 1), (refused, 1)):
         for file in found.iterdir():
             file.unlink()
@@ -291,6 +313,28 @@ def from_cplusplus(folder, environment, files):
     compare("serve, interrupted", (SERVED, 0), run([program, files[0], cycle, files[1]], env=interrupted))
 
 
+def names_from_cplusplus(folder, environment):
+    """The program of docs/c.md that reads a list is one of C++ too. It refuses lists of another kind."""
+    if missing("names.c of docs/c.md as C++", "c++"):
+        return
+    text = re.search(r"^```c\n(/\* names\.c: .*?)^```$", (TOP / "docs/c.md").read_text(), re.M | re.S)[1]
+    source, program = folder / "names.cpp", folder / "names-c++"
+    source.write_text(text)
+    built = run(["c++", "-std=c++17", *STRICT, source, *flags(environment, "capvet"), "-o", program])
+    compare("c++ names.c", ("", 0), built)
+    for file, names in NAMES.items():
+        lines = "refused\n" if names is None else "".join(f'{number} "{name}"\n' for number, name in enumerate(names))
+        got = run(["sh", "-c", 'exec "$0" < "$1"', program, TOP / "examples" / file])
+        compare(f"names.c as C++, of {file}", (lines, int(names is None)), got)
+
+
+def names_from_rust(program):
+    """The program of docs/in-process.md that reads a list refuses lists of another kind."""
+    for file, names in NAMES.items():
+        lines = "refused\n" if names is None else "".join(f"{name}\n" for name in names)
+        compare(f"names in Rust, of {file}", (lines, 0), run([program, TOP / "examples" / file]))
+
+
 def without_a_library(folder, environment):
     """The build of the crate names the library that it doesn't find, in one line."""
     nothing = folder / "nothing"
@@ -354,12 +398,13 @@ def from_rust(folder, environment, files):
     tidy(folder / "copy/examples/rust", environment)
     without_a_library(folder, environment)
     in_other_folders(folder, environment)
-    for file in of_pages("rust", folder, "#![allow(dead_code)]\n{}fn main() {{}}\n", "mod block{number} {{\n{}}}\n"):
+    for file in of_pages("rust", folder, "#![allow(dead_code)]\n{}" + NAMED, "mod block{number} {{\n{}}}\n"):
         file.rename(folder / f"copy/examples/rust/src/bin/{file.stem}.rs")
     built = run(["cargo", "build", *CARGO], cwd=folder / "copy/examples/rust", env=environment)
     compare("cargo build of the example", ("", 0), built)
     same("the example in Rust", [folder / "target/debug/vet"], files)
     signs_from_rust(folder / "target/debug/sign")
+    names_from_rust(folder / "target/debug/in-process")
     receives_from_rust(folder / "target/debug/receive", files, folder)
 
 
@@ -378,6 +423,7 @@ def main():
         from_c(folder, environment, files)
         signs_from_c(folder, environment)
         from_cplusplus(folder, environment, files)
+        names_from_cplusplus(folder, environment)
         from_rust(folder, environment, files)
         environment["PKG_CONFIG_PATH"] = str(stage / "opt/capvet/lib/pkgconfig")
         environment["PKG_CONFIG_SYSROOT_DIR"] = str(stage)

@@ -11,6 +11,10 @@ Messages of the C++ library's own encoder, and those under examples/, have to be
 has to be refused by the option --strict, with the reason, the place and the count of the model. The option --unamplified has
 to do what the word limit of each message by itself does.
 
+The messages under examples/readers/ are read as libcapnp reads them, by the types that a schema may have (tests/readers/samples.cpp,
+and `capnp decode`). So are a list of each encoding, and a root that is a list. `isCanonical` of libcapnp accepts several segments
+if the second is empty, and `check` refuses them.
+
 What isn't installed is said in a line of its own. The last line is 'N passed, M failed', and the status is 1 if a case failed.
 """
 import random
@@ -45,6 +49,31 @@ CONSTRUCTS = {
     "CapabilityPad": ("0a00000000000000 0300000000000000", 1, ("C++", "Rust")),
     "ManySegments": ("0000000000000000" + 511 * " | ", 0, ("C++", "Rust")),
 }
+# The messages under examples/readers/, with what libcapnp reads at the pointer of a list, by the type of the schema. The last is
+# what `capnp decode` says, or its beginning.
+SAMPLES = {
+    "people-as-texts": ("p0", {"structs": "(0 'A') (0 'B')", "texts": "'A' 'B'"}, """(people = [(id = 0, name = "A","""),
+    "people-as-numbers": ("p0", {"structs": "(7 '') (9 '')", "numbers": "7 9"}, "(people = [(id = 7, job ="),
+    "people-without-names": ("p0", {"structs": "(7 '') (9 '')", "numbers": "7 9"}, "(people = [(id = 7, job ="),
+    "tags-as-structs": ("p2", {"structs": "(0 'A') (0 'B')", "texts": "'A' 'B'"}, """(tags = ["A", "B"], revision = 0)\n"""),
+}
+# What libcapnp reads at pointer 0 of the root, of a struct and of a list of two elements of each encoding: the words of the
+# pointer and of what it leads to, and the readings. docs/format.md has the same as a table.
+TEXTS = "0500000012000000 0500000012000000 4100000000000000 4200000000000000"
+OBJECTS = {
+    "a struct": ("0000000001000000 0700000000000000", {"struct": "(7 '')"}),
+    "a list of no bits": ("0100000010000000", {"structs": "(0 '') (0 '')"}),
+    "a list of bits": ("0100000011000000 0300000000000000", {}),
+    "a list of 1 byte": ("0100000012000000 0709000000000000", {"structs": "(7 '') (9 '')"}),
+    "a list of 2 bytes": ("0100000013000000 0700090000000000", {"structs": "(7 '') (9 '')"}),
+    "a list of 4 bytes": ("0100000014000000 0700000009000000", {"structs": "(7 '') (9 '')", "numbers": "7 9"}),
+    "a list of 8 bytes": ("0100000015000000 0700000000000000 0900000000000000", {"structs": "(7 '') (9 '')", "numbers": "7 9"}),
+    "a list of pointers": (f"0100000016000000 {TEXTS}", {"structs": "(0 'A') (0 'B')", "texts": "'A' 'B'"}),
+    "a list of structs of pointers": (f"0100000017000000 0800000000000100 {TEXTS}", {"structs": "(0 'A') (0 'B')", "texts": "'A' 'B'"}),
+    "a list of structs of words": ("0100000017000000 0800000001000000 0700000000000000 0900000000000000",
+                         {"structs": "(7 '') (9 '')", "numbers": "7 9"}),
+}
+TYPES = ("struct", "structs", "texts", "numbers")
 
 
 def no_faults(name, faults):
@@ -175,7 +204,7 @@ def build(folder):
     programs = {}
     if not missing("strict messages by libcapnp", "c++", "pkg-config", "libcapnp"):
         flags = run(["pkg-config", "--cflags", "--libs", "capnp-rpc"])[0].split()
-        for name, file in (("C++", "read"), ("encoder", "encode")):
+        for name, file in (("C++", "read"), ("encoder", "encode"), ("samples", "samples")):
             command = ["c++", "-std=c++17", "-O2", "-Wall", "-Wextra", HERE / f"{file}.cpp", "-o", folder / file, *flags]
             no_faults(f"{file}.cpp", run(command)[0].splitlines())
             programs[name] = folder / file
@@ -208,6 +237,7 @@ class Accepted:
 class Tests:
     def __init__(self, programs):
         self.encoder = programs.pop("encoder", None)
+        self.samples = programs.pop("samples", None)
         self.readers = programs
         self.counts = Counter()
 
@@ -295,6 +325,47 @@ class Tests:
             for reader, got in lines.items():
                 no_faults(f"{name}: {reader} reads it", [got] if (got == right) == (reader in failing) else [])
 
+    def of_samples(self):
+        """What libcapnp reads where the schema has another kind of list."""
+        folder = TOP / "examples/readers"
+        no_faults("the samples", {path.stem for path in folder.iterdir()} ^ {*SAMPLES, "empty-segment"})
+        self.accepted("the samples", [next(trees.messages(path.read_bytes())) for path in sorted(folder.iterdir())])
+        if self.samples is None:
+            return
+        print(f"readers: the samples are read by libcapnp {run(['pkg-config', '--modversion', 'capnp'])[0].strip()}")
+        decodes = not missing("the samples by capnp decode", "capnp")
+        for name, (pointer, readings, text) in SAMPLES.items():
+            message = (folder / f"{name}.bin").read_bytes()
+            self.reads(name, message, [f"{pointer} {kind} {readings.get(kind, 'throws')}" for kind in TYPES])
+            if decodes:
+                got = outputs(["capnp", "decode", "--short", TOP / "examples/contacts.capnp", "Book"], message)[0].decode()
+                no_faults(f"capnp decode of {name}", [] if got.startswith(text) else [got])
+        for name, (found, readings) in OBJECTS.items():
+            self.reads(name, framed(f"0000000000000100 {found}"),
+                       [f"p0 {kind} {readings.get(kind, 'throws')}" for kind in TYPES])
+        self.reads("a list as the root", framed("0100000007000000 0000000000000000"), ["root throws"])
+        self.canonical_messages((folder / "empty-segment.bin").read_bytes())
+
+    def canonical_messages(self, empty):
+        """Which messages of several segments libcapnp takes for canonical. One has an empty second segment."""
+        many = (TOP / "examples/contacts-many-segments.bin").read_bytes()
+        words = (TOP / "examples/canonical/contacts.bin").read_bytes().hex()
+        no_faults("empty-segment.bin", [] if empty == framed(f"{words} | ") else [empty.hex()])
+        for name, message, theirs, ours in (
+            ("one segment", framed(words), "yes", "canonical"), ("an empty second segment", empty, "yes", "not canonical"),
+            ("an empty second segment and a third", framed(f"{words} |  | 0000000000000000"), "yes", "not canonical"),
+            ("a second segment of a word", framed(f"{words} | 0000000000000000"), "no", "not canonical"),
+            ("a second segment and an empty third", framed(f"{words} | 0000000000000000 | "), "no", "not canonical"),
+            ("many segments", many, "no", "not canonical")):
+            got = self.lines([self.samples], message)[0], *self.lines([PROGRAM, "check"], message)
+            expected = f"canonical {theirs}", f"message 0: {ours}"
+            no_faults(f"isCanonical and check of {name}", [] if got == expected else [got, expected])
+
+    def reads(self, name, message, expected):
+        """libcapnp reads a message so."""
+        got = self.lines([self.samples], message)[1:]
+        no_faults(f"{name} by libcapnp", [] if got == expected else [got, expected])
+
     def of_encoders(self):
         """The messages under examples/ but the cycle, and those of the library's encoder. All are strict and unamplified."""
         files = [path for path in sorted((TOP / "examples").glob("*.bin")) if path.name != "cycle.bin"]
@@ -330,6 +401,7 @@ def main():
     with tempfile.TemporaryDirectory() as folder:
         tests = Tests(build(Path(folder)))
         tests.constructs()
+        tests.of_samples()
         tests.many(tests.of_encoders(), MANY)
     return ended()
 

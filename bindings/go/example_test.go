@@ -190,30 +190,57 @@ func ExampleGet() {
 	// capvet: bad path "/x7" at byte 1
 }
 
-// Pointer 0 of each element of a list of structs is a text. A null pointer is an empty text.
-func ExampleGetRange() {
-	message := sample("contacts.bin")
-	names := make([]capvet.Node, 3)
-	for first, n := 0, len(names); n == len(names); first += n {
-		var err error
-		n, err = capvet.GetRange(names, message, "/p0/i*/p0", uint32(first), capvet.Limits{})
-		if err != nil {
-			log.Fatal(err)
+// field returns the node at a path. It is null if there is none, and has to be null or of the kind that the schema has.
+func field(message []byte, path string, kind capvet.Kind) (capvet.Node, error) {
+	node, _, err := capvet.Get(message, path, capvet.Limits{})
+	if err == nil && node.Kind != capvet.Null && node.Kind != kind {
+		err = fmt.Errorf("%s is of the kind %v", path, node.Kind)
+	}
+	return node, err
+}
+
+// names returns the names of the people in a Book of examples/contacts.capnp: pointer 0 of each struct of a list.
+func names(message []byte) ([]string, error) {
+	if _, err := field(message, "/", capvet.Struct); err != nil {
+		return nil, err
+	}
+	people, err := field(message, "/p0", capvet.Structs)
+	if err != nil {
+		return nil, err
+	}
+	texts := make([]string, people.Count)
+	nodes := make([]capvet.Node, 3)
+	// (without pointers, each name has its default)
+	for first := 0; first < len(texts) && people.Pointers > 0; first += len(nodes) {
+		if rest := len(texts) - first; rest < len(nodes) {
+			nodes = nodes[:rest]
 		}
-		for k, name := range names[:n] {
-			fmt.Printf("%d %v %q\n", first+k, name.Kind, bytes.TrimRight(name.Data, "\x00"))
+		if _, err := capvet.GetRange(nodes, message, "/p0/i*/p0", uint32(first), capvet.Limits{}); err != nil {
+			return nil, err
+		}
+		for k, name := range nodes {
+			if name.Kind != capvet.Null && (name.Kind != capvet.Values || name.Element != 2) {
+				return nil, fmt.Errorf("name %d is no text", first+k)
+			}
+			texts[first+k] = string(bytes.TrimRight(name.Data, "\x00"))
 		}
 	}
-	_, err := capvet.GetRange(names, message, "/p0/i0", 0, capvet.Limits{})
+	return texts, nil
+}
+
+// Pointer 0 of each element of a list of structs is a text. A reader finds two names in the last message too, which has a
+// list of another kind. So it is refused, and not taken for one without names.
+func ExampleGetRange() {
+	for _, name := range []string{"contacts.bin", "readers/people-without-names.bin", "readers/people-as-texts.bin"} {
+		texts, err := names(sample(name))
+		fmt.Printf("%q %v\n", texts, err)
+	}
+	_, err := capvet.GetRange(nil, sample("contacts.bin"), "/p0/i0", 0, capvet.Limits{})
 	fmt.Println(err)
 	// Output:
-	// 0 Values "fjord Ω Grüße lantern Grüße"
-	// 1 Values ""
-	// 2 Values ""
-	// 3 Values "señal harbor thicket lantern fjord"
-	// 4 Values "señal salt"
-	// 5 Null ""
-	// 6 Values "lantern thicket 北京 zephyr"
+	// ["fjord Ω Grüße lantern Grüße" "" "" "señal harbor thicket lantern fjord" "señal salt" "" "lantern thicket 北京 zephyr"] <nil>
+	// ["" ""] <nil>
+	// [] /p0 is of the kind Pointers
 	// capvet: bad path "/p0/i0" at byte 6
 }
 

@@ -60,6 +60,10 @@ func nodeOf(raw *C.capvet_node, b []byte) Node {
 // Get returns the node at a path such as "/p0/i1/p2". "/" is the root, /p steps from a struct to one of its pointers, and
 // /i from a list of pointers or structs to an element. ok is false if the path leads to nothing.
 //
+// A node of the kind Null means the field's default. No node means it only if each node before it on the path is null or
+// of the kind that the schema has. Readers also take lists of other kinds: a list of pointers or values as a list of
+// structs, and the other way round. So get the node of each list first, and refuse another kind.
+//
 // Only the pointers on the path are checked: call Vet first to check the rest. Node.Data is a slice of b.
 //
 // The error is one of Vet, or a *PathError. Limits.NoTable gives a *LimitsError.

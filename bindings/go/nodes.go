@@ -43,9 +43,12 @@ func stepsOf(path string, first uint32, l Limits) (steps []C.capvet_step, varyin
 // With "/p0/i*" the nodes are the elements of a list. With "/p0/i*/p2" they are pointer 2 of each element, and with
 // "/p*" the pointers of the root.
 //
-// They are fewer than len(dst) if the next path leads to nothing: it is after the last element or below a null one. Then
-// err is nil. They are also fewer if err is about the next path. To skip that path, call again with first+n+1.
-// The Count of the node of the list, which Get returns, is how many elements there are.
+// They are fewer than len(dst) if the next path leads to nothing. Then err is nil. The path is after the last element or
+// below a null one, the elements have no such pointer, or the list is of another kind than you expect. So get the node
+// of the list first. It has to be of the kind Structs, or readers may find fields where GetRange finds nothing. Its Count
+// is how many elements there are, and its Pointers how many pointers each one has.
+//
+// They are also fewer if err is about the next path. To skip a path, call again with first+n+1, if that is below Count.
 //
 // Only the pointers on each path are checked, and the limits apply to each path by itself. If dst is empty, the limits,
 // the path and the frame are checked. GetRange allocates 56 bytes for each node of dst, and the steps of the path.

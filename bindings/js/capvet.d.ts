@@ -222,6 +222,9 @@ export class Node {
  * The node at a path such as "/p0/i1/p2", or null if the path leads to nothing.
  *
  * "/" is the root. /p steps from a struct to one of its pointers, /i from a list of pointers or structs to an element.
+ * A node whose kind is "null" means the field's default. null does only if each node before it on the path is of the
+ * kind that the schema has: readers also take lists of other kinds, so check the kind of each list first.
+ *
  * Only the pointers on the path are checked: call `vet` first to check the rest. Throws FrameError, Refusal or
  * PathError; `noTable` throws RangeError.
  */
@@ -267,7 +270,7 @@ export interface NodesOptions extends Limits {
  * The star is the number of an element or of a pointer. It is replaced by `first`, `first` + 1, and so on, to the end
  * of the list or of the struct's pointers, but at most `count` times. Each result is that of `node` for its path. So it
  * is null where the path leads to nothing, for example below a null element. Nothing is yielded if there is no such
- * list or struct.
+ * list or struct. Neither means a default before you have checked the kind of the list: see `node`.
  *
  * PathError, TypeError and RangeError are thrown by this call. FrameError is thrown by the first step of the iteration.
  * Refusal is thrown after all nodes before that of the refused path. To go on after it, call `nodes` again with the

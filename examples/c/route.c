@@ -7,7 +7,8 @@
  *
  * The messages are Books of ../contacts.capnp. One field is the job of the owner, and the other is whether there are tags. So
  * ../contacts.bin is appended to routed/employer-tagged.bin. A message goes to routed/refused.bin if a pointer to one of its
- * fields is refused. No name of a file is made from the bytes of a message.
+ * fields is refused. So does one whose field is of another kind than the schema says, since a reader may find a value there.
+ * No name of a file is made from the bytes of a message.
  *
  * Only the pointers to the two fields are checked. The readers of the files still have to vet what they read.
  *
@@ -39,18 +40,21 @@ static uint8_t *contents(const char *name, size_t *length) {
 }
 
 /* Reads the node at a path of the first message. A path that leads to nothing is no error: the node is then null, and its
- * fields have their defaults. Returns whether no pointer on the path was refused. */
-static int get(const uint8_t *bytes, size_t length, const char *path, capvet_node *node, capvet_report *report) {
+ * fields have their defaults. Returns 0 if a pointer on the path is refused, or if the node is neither null nor of the kind
+ * that the schema has. */
+static int get(const uint8_t *bytes, size_t length, const char *path, uint32_t kind, capvet_node *node,
+               capvet_report *report) {
   capvet_limits limits = CAPVET_LIMITS_INIT;
   capvet_answer answer;
   limits.flags = CAPVET_ALLOW_TRAILING;
   answer = capvet_get(bytes, length, &limits, path, strlen(path), node, report);
-  return answer == CAPVET_OK || answer == CAPVET_NO_NODE;
+  if (answer != CAPVET_OK && answer != CAPVET_NO_NODE) return 0;
+  return node->kind == CAPVET_KIND_NULL || node->kind == kind;
 }
 
 /* The number of 16 bits at a byte of a struct. Data that ends before it means the default, which is 0. */
 static unsigned number_at(const uint8_t *bytes, const capvet_node *node, uint64_t at) {
-  if (node->kind != CAPVET_KIND_STRUCT || node->length < at + 2) return 0;
+  if (node->length < at + 2) return 0;
   return bytes[node->offset + at] | (unsigned)bytes[node->offset + at + 1] << 8;
 }
 
@@ -61,11 +65,15 @@ static const char *file_of(const uint8_t *bytes, size_t length, capvet_report *r
                                           {"school.bin", "school-tagged.bin"},
                                           {"self.bin", "self-tagged.bin"},
                                           {"other.bin", "other-tagged.bin"}};
-  capvet_node owner, tags;
+  capvet_node root, owner, tags;
   unsigned job;
-  if (!get(bytes, length, "/p1", &owner, report) || !get(bytes, length, "/p2", &tags, report)) return REFUSED;
+  if (!get(bytes, length, "/", CAPVET_KIND_STRUCT, &root, report) ||
+      !get(bytes, length, "/p1", CAPVET_KIND_STRUCT, &owner, report) ||
+      !get(bytes, length, "/p2", CAPVET_KIND_POINTERS, &tags, report)) {
+    return REFUSED;
+  }
   job = number_at(bytes, &owner, 4);
-  return files[job < 4 ? job : 4][tags.kind == CAPVET_KIND_POINTERS && tags.count > 0];
+  return files[job < 4 ? job : 4][tags.count > 0];
 }
 
 /* Appends a message to a file of the folder, and returns whether it was written. */

@@ -76,6 +76,9 @@ def node(data: Buffer, path: str, *, limits: Limits = DEFAULT) -> Optional[Node]
     """Return the node at a path such as "/p0/i1/p2", or None if the path leads to nothing.
 
     "/" is the root. /p steps from a struct to one of its pointers, /i from a list of pointers or structs to an element.
+    A node whose kind is "null" means the field's default. None does only if each node before it on the path is of the kind
+    that the schema has: readers also take lists of other kinds, so check the kind of each list first.
+
     Only the pointers on the path are checked: call vet() first to check the rest. Raises FrameError, Refusal, or
     PathError; Limits.no_table raises ValueError.
     """
@@ -109,7 +112,8 @@ def nodes(data: Buffer, path: str, *, first: int = 0, count: Optional[int] = Non
     The star is the number of an element or of a pointer. It is replaced by `first`, `first` + 1, and so on, to the end of
     the list or of the struct's pointers, but at most `count` times. Each result is that of node() for its path. So it is
     None where the path leads to nothing, for example below a null element, and enumerate() and zip() keep the numbers.
-    Nothing is yielded if there is no such list or struct.
+    Nothing is yielded if there is no such list or struct. Neither means a default before you have checked the kind of the
+    list: see node().
 
     PathError, and ValueError for Limits.no_table, `first` or `count`, are raised by this call. FrameError is raised by the
     first step of the iteration. Refusal is raised after all nodes before that of the refused path. To go on after it, call

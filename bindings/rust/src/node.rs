@@ -306,8 +306,12 @@ impl std::error::Error for GetError {}
 /// Returns the node at a path in the message that `bytes` are, or `None` if the path leads to nothing. It allocates nothing.
 ///
 /// `/` is the root. `/p0/i7/p2` is the root's pointer 0, its element 7, and that element's pointer 2: `/p` steps from a
-/// struct to one of its pointers, and `/i` from a list of pointers or structs to an element. A reader with a schema takes
-/// both `None` and a null node as the default of the field.
+/// struct to one of its pointers, and `/i` from a list of pointers or structs to an element.
+///
+/// A null node means the default of the field. `None` means it only if each node before it on the path is null or of the
+/// kind that the schema has. Readers also take lists of other kinds: a list of pointers or values as a list of structs, and
+/// the other way round. There a path leads to nothing, and the sender chooses. So get the node of each list first, and
+/// refuse another [`kind`](Node::kind).
 ///
 /// A number is at most 65535 after `/p`, and at most 4294967295 after `/i`.
 ///

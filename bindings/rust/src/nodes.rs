@@ -58,9 +58,14 @@ pub struct Nodes<'b, S> {
 ///
 /// The steps are an array, a slice, a `Vec`, or anything else that is borrowed as a slice. They are not changed.
 ///
-/// Each node is what [`node`](crate::node()) returns for its path, and the limits apply to each path by itself. The iterator
-/// ends at the first path that leads to nothing, after the last element or below a null pointer. Nothing is at a pointer
-/// from number 65535 on. After an error it ends too. To skip such a path, call again with a greater number in the step.
+/// Each node is what [`node`](crate::node()) returns for its path, and the limits apply to each path by itself. Nothing is at
+/// a pointer from number 65535 on.
+///
+/// The iterator ends at the first path that leads to nothing. It is after the last element or below a null pointer, the
+/// elements have no such pointer, or the list is of another kind than you expect. So get the node of the list first, by
+/// [`node`](crate::node()). It has to be [`Kind::Structs`](crate::Kind::Structs), or readers may find fields where this
+/// finds nothing. It has the `count` of the elements and their `pointers`. After an error the iterator ends too. To skip a
+/// path, call again with a greater number in the step, below `count`.
 ///
 /// It finds 16 nodes at a time, and keeps them: it has a size of about 1 KiB. A call of `next` uses 5 KiB of stack for the
 /// steps.
