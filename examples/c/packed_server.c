@@ -29,7 +29,8 @@
 
 #define MESSAGE_WORDS 65536
 
-static const capvet_limits limits = {MESSAGE_WORDS, MESSAGE_WORDS, 64, 0, {0, 0}};
+/* `main` lowers them. */
+static capvet_limits limits = CAPVET_LIMITS_INIT;
 
 /* A connection. The buffer has the bytes of the largest frame, so no call answers that it is too small. It is made of words,
  * because readers such as libcapnp need messages at addresses that are multiples of 8. */
@@ -159,6 +160,8 @@ int main(int count, char **words) {
   struct sigaction action;
   struct pollfd next = {-1, POLLIN, 0};
   long port = count == 3 ? strtol(words[1], NULL, 10) : -1, seconds = count == 3 ? strtol(words[2], NULL, 10) : -1;
+  limits.message_words = MESSAGE_WORDS;
+  limits.charge = MESSAGE_WORDS;
   if (port < 0 || port > 65535 || seconds < 1 || seconds > 3600) return fputs("usage: packed_server PORT SECONDS\n", stderr), 2;
   /* (without SA_RESTART, so that a signal ends the wait for a connection) */
   memset(&action, 0, sizeof action);

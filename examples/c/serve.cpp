@@ -25,8 +25,15 @@
 
 namespace {
 
-// No flags: a message is passed on only if it is whole, strict and unamplified.
-const capvet::Options options{{1 << 16, 1 << 16, 64, 0, {0, 0}}, 1};
+// Messages of up to 512 KiB. No flags are set, so a message is passed on only if it is whole, strict and unamplified.
+capvet::Options lowered() {
+  capvet::Options options;
+  options.limits.message_words = 1 << 16;
+  options.limits.charge = 1 << 16;
+  return options;
+}
+
+const capvet::Options options = lowered();
 
 using Clock = std::chrono::steady_clock;
 

@@ -22,7 +22,9 @@ namespace {
 // What a peer may send: 1 MiB, as many words of charge, 32 levels.
 capvet::ServerOptions optionsFor(long seconds) {
   capvet::ServerOptions options;
-  options.messages.limits = {1 << 17, 1 << 17, 32, 0, {0, 0}};
+  options.messages.limits.message_words = 1 << 17;
+  options.messages.limits.charge = 1 << 17;
+  options.messages.limits.depth = 32;
   options.messages.deadline = seconds * kj::SECONDS;
   options.messages.unread = 3 * seconds * kj::SECONDS;
   return options;

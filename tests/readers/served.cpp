@@ -54,7 +54,9 @@ int serve(const std::string &name, int seconds, uint32_t connections, bool paced
   KJ_REQUIRE(way < std::end(NAMES) - std::begin(NAMES), "no such way");
   auto io = kj::setupAsyncIo();
   capvet::ServerOptions options;
-  options.messages.limits = {1 << 17, 1 << 17, 32, 0, {0, 0}};
+  options.messages.limits.message_words = 1 << 17;
+  options.messages.limits.charge = 1 << 17;
+  options.messages.limits.depth = 32;
   options.messages.timer = &io.provider->getTimer();
   options.messages.deadline = options.messages.unread = seconds * kj::SECONDS;
   options.messages.paced = paced;
