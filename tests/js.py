@@ -158,6 +158,19 @@ def typed(folder):
     text, status = run([*TSC, "wrong.mts"], cwd=here)
     lines = sorted({int(line) for line in re.findall(r"^wrong.mts\((\d+),", text, re.M)})
     compare("tsc of what is wrong", (True, list(range(2, 14))), (status != 0, lines))
+    for name, path in (("vet.mts", "capvet"), ("inlined.mts", "capvet/inlined")):
+        (here / name).write_text(f'import {{ vet }} from "{path}";\nvet(new Uint8Array(8));\n')
+    without = ["es2022" if word.startswith("es2022,") else word for word in TSC]
+    text, status = run([*without, "vet.mts"], cwd=here)
+    compare("tsc without the library dom", (True, 3), (status != 0, text.count("error TS2304")))
+    compare("tsc without the library dom, by skipLibCheck", ("", 0), run([*without, "--skipLibCheck", "vet.mts", "inlined.mts"], cwd=here))
+    older = ["node" if word == "nodenext" and TSC[at - 1] == "--moduleResolution" else "es2022" if word == "nodenext" else word
+             for at, word in enumerate(TSC)]
+    compare("tsc with moduleResolution node", ("", 0), run([*older, "vet.mts"], cwd=here))
+    text, status = run([*older, "inlined.mts"], cwd=here)
+    compare("capvet/inlined with moduleResolution node", (True, 1), (status != 0, text.count("error TS2307")))
+    newer = ["node16" if word == "nodenext" else word for word in TSC]
+    compare("capvet/inlined with moduleResolution node16", ("", 0), run([*newer, "inlined.mts"], cwd=here))
 
 
 # ------------------------------------------------------------------ costs
@@ -213,6 +226,12 @@ def bounded(where):
 
 # ------------------------------------------------------------------ the page
 
+def sized():
+    """The page on the module has its size, to 10 KB."""
+    size = re.search(r"a module of (\d+) KB", (TOP / "docs/wasm.md").read_text())
+    compare("the size of the module on docs/wasm.md", round(MODULE.stat().st_size / 10_000) * 10, int(size[1]) if size else 0)
+
+
 def as_shown(folder):
     """The commands and programs of docs/js.md write what the page shows."""
     page = (TOP / "docs/js.md").read_text()
@@ -257,6 +276,7 @@ def main():
         given_back(where)
         if IS_FULL:
             bounded(where)
+        sized()
         as_shown(folder)
     return ended()
 

@@ -4,10 +4,11 @@
     pages.py [PROGRAM]
 
 A block of a page that has lines '$ COMMAND' is run line by line in a folder with the samples. Each command has to print
-exactly what the page shows after it. A block of docs/proofs.md has to be in a file that the page names; a block of shell
-there has to run at the top of the repository. Links lead to a file and to a heading that exist, and files that a page
+exactly what the page shows after it. A block of docs/proofs.md has to be in a file that the page names, or what the prover
+reported when build/ was made; a block of shell there has to run at the top of the repository. Links lead to a file and to a heading that exist, and files that a page
 names exist. The pages that packaging/written/write.py makes are what it would write. The pages, the manual pages, the header
-and help have no word of tests/words.md, no sentence of more than 40 words, and one tagline. The last line is
+and help have no word of tests/words.md, no sentence of more than 40 words, and one tagline. The numbers of limits in pages,
+examples and headers have names. No page has control characters, and the manual page has each exit status. The last line is
 'N passed, M failed', and the status is 1 if a case failed.
 """
 import os
@@ -20,7 +21,7 @@ from pathlib import Path
 from harness import PROGRAM, TOP, compare, ended, run
 from helps import HELPS
 
-PAGES = ("README.md", "docs/guide.md", "docs/service.md", "docs/output.md", "docs/format.md")
+PAGES = ("README.md", "SECURITY.md", "docs/guide.md", "docs/service.md", "docs/output.md", "docs/format.md")
 MARKDOWN = ("README.md", "CHANGELOG.md", "CONTRIBUTING.md", "SECURITY.md",
             *(str(path.relative_to(TOP)) for path in sorted((TOP / "docs").rglob("*.md"))))
 TAGLINE = "untrusted Cap'n Proto messages without a schema"
@@ -29,6 +30,8 @@ TAGGED = ("README.md", "docs/capvet.1", "docs/capvet.3", "include/capvet.h", "ca
           "bindings/go/capvet.go")
 LONGEST = 40
 BLOCK = re.compile(r"^```(\w*)\n(.*?)^```$", re.M | re.S)
+# Limits whose numbers have no names, in C and in C++: what a reader can't tell apart.
+POSITIONAL = re.compile(r"\b(?:capvet_limits|Options)(?: \w+)?(?:\[\])? ?=? ?\{+ *\w|\blimits = \{ *\w")
 
 
 def commands(block):
@@ -62,9 +65,36 @@ def quoted(page):
             # (one of a public function, one of a member of a trait, and nothing else)
             compare(f"{page} finds by {block!r}", True, all("requires" in line for line in lines)
                     and all(f"/{name}.rt:" in output for name in ("following", "segments")))
-        else:
+        elif "logic=proved" not in block:
             compare(f"{page} quotes {block!r}", True, any(block in file for file in named.values()))
     compare(f"{page} quotes", True, len(blocks) > 1)
+
+
+def reported(page):
+    """A page quotes what the prover says of the program and of the archive, and names the libraries that it takes as they are."""
+    text = (TOP / page).read_text()
+    quotations = [block for _, block in BLOCK.findall(text) if "logic=proved" in block]
+    compare(f"{page} quotes two reports", 2, len(quotations))
+    words = set(re.findall(r"(?<= )([\w-]+)=", "".join(re.findall(r"^logic=.*", "".join(quotations), re.M))))
+    compare(f"{page} explains each word", set(), words - set(re.findall(r"^\| .*?`([\w-]+)=", text, re.M)))
+    files = [TOP / "build" / f"{crate}.report" for crate in ("capvet", "capvet_c")]
+    if not all(file.exists() for file in files):
+        print("pages: no report of the prover is compared, since build/ was not proved here")
+        return
+    reports = [file.read_text() for file in files]
+    for quotation, report in zip(quotations, reports):
+        compare(f"{page} quotes the prover", quotation, "".join(re.findall(r"^(?:axioms|logic=).*\n", report, re.M)))
+    taken = {name for name in re.findall(r"^statements (\w+):", "".join(reports), re.M) if not re.match(r"(core|io|os|libc|std(_\w+)?)$", name)}
+    named = re.search(r"the statements of the libraries (.*?)\. So are", text)
+    compare(f"{page} names the libraries", taken, set(re.findall(r"`(\w+)`", named[1])) if named else set())
+
+
+def of_the_kit():
+    """What the pages say of Rattle is what its program says. Without `rt` nothing is compared."""
+    kit = Path(shutil.which("rt") or "/").resolve().parent
+    if (kit / "rattle").exists():
+        said = re.search(r'`rattle --help` says: "(.*?)"', (TOP / "docs/proofs.md").read_text())[1]
+        compare("docs/proofs.md quotes rattle --help", True, said in run([kit / "rattle", "--help"])[0])
 
 
 # What is taken from the page of definitions, what is there instead, and the first fault that the script then finds.
@@ -159,6 +189,18 @@ def paragraphs(name, text):
         yield " ".join(part.split())
 
 
+def limits_have_names():
+    """Limits in the pages, the examples and the headers begin with CAPVET_LIMITS_INIT, and their fields are named."""
+    for wrong in ("const capvet_limits limits = {4096, 4096, 64, 0, {0, 0}};", "static capvet_limits LIMITS = { WORDS, 1, 1 };",
+                  "const capvet::Options options{{1 << 16, 1 << 16, 64, 0, {0, 0}}, 1};", "options.messages.limits = {1 << 17, 2};"):
+        compare(f"limits without names are found in {wrong}", True, POSITIONAL.search(wrong) is not None)
+    files = [path for top in ("examples", "include", "docs") for path in (TOP / top).rglob("*.*")
+             if path.suffix in (".c", ".cpp", ".h", ".md", ".3")]
+    compare("files with limits", True, sum("CAPVET_LIMITS_INIT" in path.read_text() for path in files) > 5)
+    for path in (*files, TOP / "README.md"):
+        compare(f"limits without names in {path.relative_to(TOP)}", [], POSITIONAL.findall(path.read_text()))
+
+
 def plain(name, text, banned):
     """A page has no word of the list, and no sentence that is too long."""
     found, long = [], []
@@ -167,6 +209,27 @@ def plain(name, text, banned):
         long += [said for said in re.split(r"(?<=[.!?:;]) (?=[A-Z\"(])", part) if len(said.split()) > LONGEST]
     compare(f"{name}: words of tests/words.md", [], found)
     compare(f"{name}: sentences of more than {LONGEST} words", [], long)
+
+
+def printable(name, text):
+    """A page has no control character but tabs: a manual page had a form feed in place of a change of fonts."""
+    compare(f"{name}: control characters", [], re.findall(r"[\0-\x08\x0b-\x1f\x7f-\xa0]", text))
+
+
+def statuses():
+    """The manual page of the program has each exit status of the page on output."""
+    rows = (TOP / "docs/output.md").read_text().partition("## Exit status\n")[2]
+    manual = (TOP / "docs/capvet.1").read_text().partition(".SH EXIT STATUS\n")[2].partition(".SH ")[0]
+    expected = re.findall(r"^\| (\d+) \|", rows, re.M)
+    compare("exit statuses of docs/capvet.1", expected, re.findall(r"^\.B (\d+)$", manual, re.M))
+    compare("docs/output.md has exit statuses", True, len(expected) > 3)
+
+
+def changes():
+    """The list of changes of the newest version begins with what touches security, which is something."""
+    text = (TOP / "CHANGELOG.md").read_text()
+    newest = text.partition("\n## ")[2].partition("\n## ")[0]
+    compare("CHANGELOG.md begins with security", True, re.search(r"\A.*\n\n### Security\n\n- ", newest) is not None)
 
 
 def list_of_words():
@@ -180,14 +243,21 @@ def list_of_words():
 for name in PAGES:
     shown(name)
 quoted("docs/proofs.md")
+reported("docs/proofs.md")
+of_the_kit()
 written()
 for name in MARKDOWN:
     links(name)
     named(name)
+limits_have_names()
+statuses()
+changes()
 BANNED = list_of_words()
 for name in (*MARKDOWN, "packaging/README-archive.md", "packaging/README-debian.md", "docs/capvet.1", "docs/capvet-guard.1", "docs/capvet.3",
              "include/capvet.h"):
-    plain(name, (TOP / name).read_text(), BANNED)
+    text = (TOP / name).read_text()
+    plain(name, text, BANNED)
+    printable(name, text)
 for asked, text in HELPS:
     plain(f"capvet {asked[0]}", text, BANNED)
 for name in TAGGED:
