@@ -14,6 +14,7 @@ install. Files that were made of the same program and library are kept.
 """
 import fcntl
 import hashlib
+import re
 import shutil
 import subprocess
 import sys
@@ -34,6 +35,15 @@ TARGETS = {
                 {"aarch64-linux-gnu-gcc": "gcc-aarch64-linux-gnu libc6-dev-arm64-cross"}),
     "wasm": (("capvet.wasm",), {"wasm-opt": "binaryen"}),
 }
+
+
+def keep_report(crate, text):
+    """Keeps the lines of the prover that say what a crate's verdict rests on, as docs/proofs.md quotes them. (if nothing has changed,
+    `rt` checks nothing, and writes none)"""
+    lines = re.findall(r"^(?:axioms|statements|logic=proved).*$", text, re.M)
+    if any(line.startswith("logic=proved") for line in lines):
+        BUILT.mkdir(exist_ok=True)
+        (BUILT / f"{crate}.report").write_text("".join(f"{line}\n" for line in lines))
 
 
 def externs(root, crate):
@@ -59,7 +69,11 @@ def compile_crate(root, crate, out, scratch, *words):
     command = [KIT / "bin/rattle", "build", "--crate-name", crate, source, *kind, "--links", f"{crate}=", *externs(root, crate),
                "--antt-project", KIT / "rattle/logic/antt-project.json", "--logic-built", KIT / "logic_built",
                "--incremental", scratch / crate, "--toolchain", KIT / "toolchain", "--jobs", "4", *words, "-o", out]
-    return subprocess.run(command, cwd=root / "crates" / crate).returncode == 0
+    ran = subprocess.run(command, cwd=root / "crates" / crate, stdout=subprocess.PIPE, text=True, errors="replace")
+    print(ran.stdout, end="", flush=True)
+    if ran.returncode == 0 and not words:
+        keep_report(crate, ran.stdout)
+    return ran.returncode == 0
 
 
 def link(compiler, options, objects, out):

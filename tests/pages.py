@@ -30,6 +30,8 @@ TAGGED = ("README.md", "docs/capvet.1", "docs/capvet.3", "include/capvet.h", "ca
           "bindings/go/capvet.go")
 LONGEST = 40
 BLOCK = re.compile(r"^```(\w*)\n(.*?)^```$", re.M | re.S)
+# What a script writes of the prover's report on a crate.
+REPORT = re.compile(r"^<!-- report of \w+ -->\n```\n(.*?)^```$", re.M | re.S)
 # Limits whose numbers have no names, in C and in C++: what a reader can't tell apart.
 POSITIONAL = re.compile(r"\b(?:capvet_limits|Options)(?: \w+)?(?:\[\])? ?=? ?\{+ *\w|\blimits = \{ *\w")
 
@@ -56,7 +58,7 @@ def quoted(page):
     """A page's quotations are in files that it names, word for word, and its shell commands run."""
     text = (TOP / page).read_text()
     named = {name: (TOP / name).read_text() for name in re.findall(r"`(crates/[\w/.]+\.\w+)`", text)}
-    blocks = BLOCK.findall(text)
+    blocks = BLOCK.findall(REPORT.sub("", text))
     for language, block in blocks:
         if language == "sh":
             output, status = run(["sh", "-ec", block], cwd=TOP)
@@ -65,28 +67,23 @@ def quoted(page):
             # (one of a public function, one of a member of a trait, and nothing else)
             compare(f"{page} finds by {block!r}", True, all("requires" in line for line in lines)
                     and all(f"/{name}.rt:" in output for name in ("following", "segments")))
-        elif "logic=proved" not in block:
+        else:
             compare(f"{page} quotes {block!r}", True, any(block in file for file in named.values()))
     compare(f"{page} quotes", True, len(blocks) > 1)
 
 
 def reported(page):
-    """A page quotes what the prover says of the program and of the archive, and names the libraries that it takes as they are."""
+    """A page explains each word of what the prover reports of the program and of the archive, and names the libraries that are
+    taken as they are. (that the page quotes both is looked at with the pages that a script writes)"""
     text = (TOP / page).read_text()
-    quotations = [block for _, block in BLOCK.findall(text) if "logic=proved" in block]
-    compare(f"{page} quotes two reports", 2, len(quotations))
+    quotations = REPORT.findall(text)
+    compare(f"{page} quotes two reports", [True, True], [it.count("\nlogic=proved ") == 1 for it in quotations])
     words = set(re.findall(r"(?<= )([\w-]+)=", "".join(re.findall(r"^logic=.*", "".join(quotations), re.M))))
-    compare(f"{page} explains each word", set(), words - set(re.findall(r"^\| .*?`([\w-]+)=", text, re.M)))
-    files = [TOP / "build" / f"{crate}.report" for crate in ("capvet", "capvet_c")]
-    if not all(file.exists() for file in files):
-        print("pages: no report of the prover is compared, since build/ was not proved here")
-        return
-    reports = [file.read_text() for file in files]
-    for quotation, report in zip(quotations, reports):
-        compare(f"{page} quotes the prover", quotation, "".join(re.findall(r"^(?:axioms|logic=).*\n", report, re.M)))
-    taken = {name for name in re.findall(r"^statements (\w+):", "".join(reports), re.M) if not re.match(r"(core|io|os|libc|std(_\w+)?)$", name)}
-    named = re.search(r"the statements of the libraries (.*?)\. So are", text)
-    compare(f"{page} names the libraries", taken, set(re.findall(r"`(\w+)`", named[1])) if named else set())
+    compare(f"{page} explains each word", set(), words - set(re.findall(r"(?<=[ |]`)([\w-]+)=", text)))
+    reports = "".join(file.read_text() for file in (TOP / "build").glob("*.report"))
+    taken = {name for name in re.findall(r"^statements (\w+):", reports, re.M) if not re.match(r"(core|io|os|libc|std(_\w+)?)$", name)}
+    named = re.findall(r"`(\w+)`", re.search(r"and of the libraries (.*?)\. The code", text)[1])
+    compare(f"{page} names the libraries", set(), taken - set(named))
 
 
 def of_the_kit():

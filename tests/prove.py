@@ -35,6 +35,7 @@ import targets  # noqa: E402 (it is in the folder that the line above names)
 KIT = Path(shutil.which("rt") or "/").resolve().parent.parent
 BUILT = TOP / "build"
 PROGRAM, ARCHIVE = Path("crates/capvet/out/capvet"), Path("crates/capvet_c/out/libcapvet_c.a")
+BUILDS = (PROGRAM.parts[1], ARCHIVE.parts[1])
 CORES = len(os.sched_getaffinity(0))
 EACH = 600
 HANDLES = "Handles allowed: none.\n"
@@ -55,6 +56,8 @@ def rt(folder, *words, beside=False):
     ran = subprocess.run(["nice"] * beside + ["rt", *words], cwd=folder, stdin=subprocess.DEVNULL, stdout=subprocess.PIPE,
                          stderr=subprocess.STDOUT, text=True, errors="replace")
     print(ran.stdout, end="")
+    if ran.returncode == 0 and folder.name in BUILDS:
+        targets.keep_report(folder.name, ran.stdout)
     return ran.returncode == 0
 
 
@@ -195,7 +198,7 @@ def prove_each(names, tests, rt=rt):
 
 def prove_code():
     """Proves the program, the archive and all that they are built from. Returns what passed: these two."""
-    return 2 if prove_each(below([PROGRAM.parts[1], ARCHIVE.parts[1]]), ()) and holds_handles() else None
+    return 2 if prove_each(below(BUILDS), ()) and holds_handles() else None
 
 
 def prove_all():

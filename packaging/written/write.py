@@ -1,10 +1,12 @@
 #!/usr/bin/env python3
-"""Writes the pages that are made from the sources: docs/believe.md, docs/promises.md and docs/internals/tests.md.
+"""Writes the pages that are made from the sources: docs/believe.md, docs/promises.md and docs/internals/tests.md. In docs/proofs.md
+it writes what the prover reported of the program and of the archive, if build/ was proved here.
 
     write.py [--check]
 
 With --check it writes nothing, and its status is 1 if a page isn't what it would write.
 """
+import re
 import sys
 from pathlib import Path
 
@@ -17,9 +19,18 @@ HERE = Path(__file__).resolve().parent
 PAGES = {"believe.md": believe.Page, "promises.md": promises.Page, "internals/tests.md": scripts.Page}
 
 
+def with_reports(text):
+    """A page with the last lines of the prover's reports in the blocks after the comments that name a crate."""
+    for file in sorted((TOP / "build").glob("*.report")):
+        lines = "".join(re.findall(r"^(?:axioms|logic=).*\n", file.read_text(), re.M))
+        text = re.sub(rf"(<!-- report of {file.stem} -->\n```\n).*?^```$", lambda it: f"{it[1]}{lines}```", text, flags=re.M | re.S)
+    return text
+
+
 def stale():
     """The pages that aren't what they should be: each with its text."""
     texts = {TOP / "docs" / name: page((HERE / f"{Path(name).name}.in").read_text()).write() for name, page in PAGES.items()}
+    texts[TOP / "docs/proofs.md"] = with_reports((TOP / "docs/proofs.md").read_text())
     return {file: text for file, text in texts.items() if not file.exists() or file.read_text() != text}
 
 
