@@ -27,6 +27,9 @@ const (
 	statusProcessor = 127
 )
 
+// version is what --version prints. -dev says that it isn't released.
+const version = "1.1.0-dev"
+
 func main() {
 	signals := make(chan os.Signal, 8)
 	signal.Notify(signals, syscall.SIGTERM, syscall.SIGINT, syscall.SIGHUP)
@@ -44,7 +47,7 @@ func run(words []string, out, log io.Writer, signals <-chan os.Signal) int {
 		io.WriteString(out, usage)
 		return statusDone
 	case o.isVersion:
-		fmt.Fprintln(out, "capvet-guard", capvet.Version())
+		fmt.Fprintln(out, "capvet-guard", version)
 		return statusDone
 	}
 	if !capvet.CPUSupported() {

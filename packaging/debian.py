@@ -15,7 +15,8 @@ from email.utils import formatdate
 
 import licences
 import pages
-from packing import BUILT, DIST, HERE, TOP, compress, copy_program, copy_tracked, digest, entries, install, is_file, run, shared, version
+from packing import (BUILT, DIST, HERE, TOP, compress, copy_program, copy_tracked, debian_version, digest, entries, install, is_file, run,
+                     shared, version)
 
 # Who packs it. (No mail reaches a domain `invalid`.)
 MAINTAINER = os.environ.get("MAINTAINER", "The owner of the repository <owner@capvet.invalid>")
@@ -78,7 +79,7 @@ def take(whole, root, patterns):
 def describe(root, name, machine, architecture, epoch):
     """Adds what each package has: its fields, scripts, log of changes, licences, and sums."""
     files = {file.name: file.read_text() for file in (HERE / "debian" / name).iterdir()}
-    values = {"version": version(), "date": formatdate(epoch), "maintainer": MAINTAINER, "processor": machine.processor,
+    values = {"version": debian_version(), "date": formatdate(epoch), "maintainer": MAINTAINER, "processor": machine.processor,
               "libc": needed_libc(path for _, path in entries(root) if is_file(path))}
     texts = {kind: re.sub(r"@(\w+)@", lambda word: values[word[1]], text) for kind, text in files.items()}
     changes = re.sub(r"@(\w+)@", lambda word: values[word[1]], (HERE / "debian/changelog").read_text())
@@ -98,7 +99,7 @@ def describe(root, name, machine, architecture, epoch):
     (root / "DEBIAN/md5sums").write_text("".join(sums))
     fields = re.sub(r"^Architecture: .*\n", "", texts["control"], flags=re.M)
     source = "" if name == "capvet" else "Source: capvet\n"
-    (root / "DEBIAN/control").write_text(f"Package: {name}\n{source}Version: {version()}\nArchitecture: {architecture}\n"
+    (root / "DEBIAN/control").write_text(f"Package: {name}\n{source}Version: {debian_version()}\nArchitecture: {architecture}\n"
                                          f"Maintainer: {MAINTAINER}\nInstalled-Size: {size}\nPriority: optional\n{fields}")
 
 
@@ -124,7 +125,7 @@ def packages(scratch, machine, guard, wheel, is_first, epoch):
         elif is_first or not is_common:
             architecture = "all" if is_common else machine.debian
             describe(root, folder.name, machine, architecture, epoch)
-            pack(root, DIST / "apt" / f"{folder.name}_{version()}_{architecture}.deb", epoch)
+            pack(root, DIST / "apt" / f"{folder.name}_{debian_version()}_{architecture}.deb", epoch)
     if left := [name for name, path in entries(whole) if not path.is_dir()]:
         sys.exit(f"dist: no package has {left}")
 

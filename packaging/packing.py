@@ -63,6 +63,16 @@ def version():
     return ".".join(re.findall(r"^#define CAPVET_VERSION_(?:MAJOR|MINOR|PATCH) (\d+)$", header, re.M))
 
 
+def version_text():
+    """The version as the program prints it: with -dev while it isn't released."""
+    return re.search(r"^## (\S+)", (TOP / "CHANGELOG.md").read_text(), re.M)[1]
+
+
+def debian_version():
+    """The version of Debian's packages: 1.1.0~dev is before 1.1.0 there."""
+    return version_text().replace("-", "~")
+
+
 def calls():
     """The calls of the header that the library exports."""
     header = re.sub(r"/\*.*?\*/", "", (TOP / "include/capvet.h").read_text(), flags=re.S)

@@ -37,7 +37,7 @@ def listed(dist):
         it = fields(package)
         entry = next(part for part in described.split("\n\n") if f"Filename: ./{package.name}\n" in part)
         compare(f"sum of {package.name} in Packages", True, packing.digest(package) in entry)
-        compare(f"version of {package.name}", packing.version(), it["Version"])
+        compare(f"version of {package.name}", packing.debian_version(), it["Version"])
         compare(f"licences in {package.name}", True, f"./usr/share/doc/{it['Package']}/copyright" in run(["dpkg-deb", "-c", package])[0])
         needed = re.search(r"libc6 \(>= ([\d.]+)\)", it.get("Depends", ""))
         # (Debian 12 has 2.36, and Ubuntu 22.04 has 2.35)
@@ -47,7 +47,7 @@ def listed(dist):
 def symbols(dist):
     """The list of symbols has each call of the header, and its version that of the header at most."""
     text = control(next(dist.glob("apt/libcapvet1_*_amd64.deb")), "symbols")
-    calls = dict(re.findall(r"^ (capvet_\w+)@CAPVET_1 ([\d.]+)$", text, re.M))
+    calls = dict(re.findall(r"^ (capvet_\w+)@CAPVET_1 ([\d.]+)~?$", text, re.M))
     compare("calls of the list of symbols", sorted(packing.calls()), sorted(calls))
     compare("versions of the list of symbols", True, all(it.split(".") <= packing.version().split(".") for it in calls.values()))
 

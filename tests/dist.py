@@ -196,7 +196,7 @@ def installs(dist, folder):
     # (without a network, the environment has Debian's `cffi`)
     python = python.replace("-m venv venv", "-m venv --system-site-packages venv")
     environment = without_rt(folder) | {"PATH": f"/usr/bin:{os.environ['PATH']}"}
-    compare("install.md: sums, any Linux, Python", (f"capvet {packing.version()}\n{packing.version()}\n", 0),
+    compare("install.md: sums, any Linux, Python", (f"capvet {packing.version_text()}\n{packing.version()}\n", 0),
             run(["sh", "-ec", sums + anywhere + python.replace("pip install", "pip install -q")], cwd=place, env=environment))
     environment = without_rt(folder) | {"CAPVET": str(next(place.glob("*-x86_64-linux")))}
     begins = {"rust": "cargo new --quiet --vcs none rust", "go": "mkdir go && cd go && go mod init hello 2> /dev/null"}

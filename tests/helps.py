@@ -39,7 +39,7 @@ Example:
   $ capvet vet examples/contacts.bin
   message 0: accepted charge 391 depth 11 pointers 125 caps 0
 """),
-    (("--version", "-V", "--version vet"), "capvet 1.1.0\n"),
+    (("--version", "-V", "--version vet"), "capvet 1.1.0-dev\n"),
     (("segments --help", "segments -h", "help segments"), """\
 Prints the segments of each message, their sizes in words, and the root pointer
 

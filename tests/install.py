@@ -133,14 +133,24 @@ def options():
 
 
 def versions():
-    """The program, the crates, the other bindings and the pages have the version of the header."""
+    """The program, the crates, the other bindings and the pages have the version of the header. While it isn't released, the texts
+    for people have -dev after it. A released version has a tag, and older ones are at the commits that CHANGELOG.md names."""
     header = (TOP / "include/capvet.h").read_text()
     numbers = [re.search(rf"^#define CAPVET_VERSION_{part} (\d+)$", header, re.M)[1] for part in ("MAJOR", "MINOR", "PATCH")]
-    version = ".".join(numbers)
-    compare("the version of the program", (f"capvet {version}\n", 0), run([PROGRAM, "--version"]))
-    for name in ("docs/capvet.1", "docs/capvet.3"):
-        compare(f"the version of {name}", [version], re.findall(r'^\.TH .*"capvet (.*?)"', (TOP / name).read_text(), re.M))
-    compare("the version of CHANGELOG.md", version, re.search(r"^## (\S+)", (TOP / "CHANGELOG.md").read_text(), re.M)[1])
+    version, changes = ".".join(numbers), (TOP / "CHANGELOG.md").read_text()
+    newest, release = re.search(r"^## (\S+) \((.*)\)$", changes, re.M).groups()
+    text = f"{version}-dev" if release == "not released" else version
+    compare("the version of CHANGELOG.md", text, newest)
+    compare("the version of the program", (f"capvet {text}\n", 0), run([PROGRAM, "--version"]))
+    for name in ("docs/capvet.1", "docs/capvet.3", "docs/capvet-guard.1"):
+        compare(f"the version of {name}", [text], re.findall(r'^\.TH .*"capvet (.*?)"', (TOP / name).read_text(), re.M))
+    if (TOP / ".git").exists():
+        tagged = run(["git", "tag", "--list", f"v{version}"], cwd=TOP)[0].strip()
+        compare(f"the tag of {text}", "" if text != version else f"v{version}", tagged)
+        for number, commit in re.findall(r"^## (\S+) \(\d.*\)\n\n.*`git checkout (\w+)`", changes, re.M):
+            header, status = run(["git", "show", f"{commit}:include/capvet.h"], cwd=TOP)
+            parts = re.findall(r"^#define CAPVET_VERSION_(?:MAJOR|MINOR|PATCH) (\d+)$", header, re.M)
+            compare(f"the header at {commit}", (number, 0), (".".join(parts), status))
     manifests = sorted(file for folder in ("bindings", "examples") for name in ("Cargo.toml", "pyproject.toml", "setup.cfg")
                        for file in (TOP / folder).glob(f"*/{name}"))
     found = {file: re.findall(r'^version = "?([^"\n]*)"?$', file.read_text(), re.M) for file in manifests}

@@ -1,7 +1,7 @@
 //! The texts of help.
 
-/// The version that `--version` prints.
-pub(crate) const VERSION: &str = "1.1.0";
+/// The version that `--version` prints. `-dev` says that it isn't released.
+pub(crate) const VERSION: &str = "1.1.0-dev";
 
 /// The help of the program, after the list of its commands.
 pub(crate) const PROGRAM_NOTES: &str = "\
