@@ -89,7 +89,8 @@
  *
  * Cost. A walk is one pass over all pointers. A step takes about 10 ns on a current machine. By default a walk
  * takes at most the words of the segments + CAPVET_SLACK + 1 steps, and with CAPVET_ALLOW_AMPLIFIED
- * limits->charge + 1. (Times are measured, not proved.)
+ * limits->charge + 1. Steps and times are measured, not proved. It is proved that report->pointers is at most the
+ * same number.
  *
  * Machines. 64-bit only. On x86-64 the library needs a processor of level x86-64-v2, which has SSSE3, SSE4.1
  * and POPCNT among others. On an older one a call may end the process by SIGILL. Whether it does depends on the
@@ -329,9 +330,8 @@ void capvet_limits_default(capvet_limits *limits) CAPVET_NOEXCEPT;
 /* The report of a call, besides its answer. A field is 0 where its comment does not apply.
  *
  * The tree numbers (charge, pointers, capabilities, depth) are set if the call checked the whole message and
- * accepted it: CAPVET_OK, CAPVET_NOT_CANONICAL, CAPVET_HAS_CAPABILITY, CAPVET_BUFFER_TOO_SMALL.
- * capvet_frame, capvet_get, capvet_pack_message and capvet_unpack_message check no whole message, so they set
- * none. capvet_explain sets none either.
+ * accepted it: CAPVET_OK, CAPVET_NOT_CANONICAL, CAPVET_HAS_CAPABILITY, CAPVET_BUFFER_TOO_SMALL. Only capvet_vet,
+ * capvet_vet_exclusive, capvet_vet_segments, capvet_canonical and capvet_is_canonical set them.
  *
  * A library of a later minor version may set reserved fields, and `detail` for more answers: do not compare
  * reports by memcmp. */
@@ -347,13 +347,15 @@ typedef struct capvet_report {
   uint64_t charge;         /* a tree number */
   uint64_t pointers;       /* a tree number, null pointers included; answers with a place: how many pointers
                               were checked, the named one included (0 after CAPVET_NO_ROOT); capvet_explain:
-                              as for the answer that it explains */
+                              as for the answer that it explains; capvet_earlier_pointer, on CAPVET_OK: the
+                              number of the earlier pointer */
   uint64_t capabilities;   /* a tree number */
   uint32_t depth;          /* a tree number: the deepest level */
   uint32_t segments;       /* how many segments, whenever `length` is set */
   uint32_t segment;        /* the place of the pointer that the answer is about: CAPVET_OVERLAP, */
   uint32_t word;           /* CAPVET_NULL_PAD, CAPVET_EMPTY_SEGMENT, CAPVET_CAPABILITY_PAD, and from
                               CAPVET_NO_ROOT on; capvet_explain: as for the answer that it explains;
+                              capvet_earlier_pointer, on CAPVET_OK: the place of the earlier pointer;
                               else the place of the first capability, if `capabilities` is not 0 */
   uint64_t reserved[4];    /* 0 */
 } capvet_report;

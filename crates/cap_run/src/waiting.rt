@@ -1,6 +1,7 @@
 //! When an output is flushed, for all engines, and the sources that show what is buffered of their
 //! input. What can be said of the bytes that have come is said before the program waits for more: an
-//! engine flushes what it wrote, unless its source shows what is read next.
+//! engine flushes what it wrote, unless its source shows what is read next. `tests/live.py` shows this,
+//! and no clause says it.
 
 ghost use Rattle.cap_frame.specs.Limit.{limit_of};
 ghost use Rattle.cap_frame.specs.Putting.{Halts};
