@@ -9,3 +9,4 @@ mod SharedExamples
 mod CanonicalExamples
 mod StrictExamples
 pub mod HighSteps
+pub mod Trimming

@@ -5,3 +5,4 @@ pub mod PackingLaws
 pub mod ReachingLaws
 pub mod AmplifyingLaws
 pub mod LawNames
+pub mod TrimmingLaws

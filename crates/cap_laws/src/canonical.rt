@@ -8,6 +8,7 @@ ghost use Rattle.cap_spec.specs.Denoting.{Denotes};
 ghost use Rattle.cap_spec.specs.Canonical.{layout, list_word, offsets, struct_word, trim};
 ghost use Rattle.cap_spec.specs.Pointers.{code, data_size, kind, list_size, middle, pointer_size};
 ghost use Rattle.cap_spec.specs.Copies.{HasCopy, IsCanonical};
+ghost use Rattle.cap_laws.specs.TrimmingLaws.{Extends};
 
 /// A trimmed tree has nothing left to trim, so that a canonical copy is its own canonical copy.
 pub fn trimmed_once_is_enough()
@@ -19,6 +20,15 @@ pub fn trimmed_once_is_enough()
 pub fn trimmed_tree_is_a_tree()
     ensures tree { (t : Tree) → IsTree t → IsTree (trim t) }
     ensures caps { (t : Tree) → has_cap (trim t) ≡ has_cap t }
+{}
+
+/// Trimming cuts zero data words and null pointers at the ends of structs, and changes nothing else:
+/// the tree is the trimmed tree with some of these after the words and pointers of each struct. The
+/// elements of a list of structs have as many more each. And trimming cuts all of these: a tree with
+/// more of them is trimmed to the same tree.
+pub fn trimming_cuts_zeros_and_nulls()
+    ensures nothing_else { (t : Tree) → IsTree t → Extends t (trim t) }
+    ensures all { (t u : Tree) → IsTree u → Extends t u → trim t ≡ trim u }
 {}
 
 /// The layout of what a word denotes, trimmed, has at most one word more than the word's charge.
