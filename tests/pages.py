@@ -108,6 +108,7 @@ LACKS = (
     (", `Global`", "", "canonical uses Global, which the notation doesn't explain"),
     ("Words: field", "Words: IsWord field", "nothing on the page cites Words.IsWord"),
     ("`IsTrue b`, ", "`IsTrue b`, `IsFalse b`, ", "the notation explains IsFalse, which nothing uses"),
+    ("{part Strict and unamplified messages}", "{part Strict messages}", "the page has no part Strict messages"),
 )
 
 

@@ -12,9 +12,10 @@ A line of the template in braces is replaced by a copy from the sources:
     {unmet CRATE FILE NAME}        the same of a definition of the page that no example cites
     {alias FILE NAME}              a name that a file itself gives to what it imports, which the line explains
     {law NAME}                     the name of a law
+    {part NAME}                    a link to the part of this heading, by its number
     {counts}, {safe}, ..           numbers of lines
 
-A name that is cited before it is defined is an error, and so is one of Rust or a library, a part of a value or a sign that
+The headings of the template have no numbers: they are counted here. A name that is cited before it is defined is an error, and so is one of Rust or a library, a part of a value or a sign that
 the first part doesn't explain. So is a name that a file gives to an import, without a line that explains it. A definition
 that nothing on the page cites is an error too, and a name of a library in the first part that nothing uses.
 """
@@ -24,14 +25,18 @@ from names import Names
 from source import CRATES, chunk_with, contract, declared, dedent, functions, rattle, renamed, spec, statement
 
 # Parts of the page up to which each claim has to be read.
-READINGS = {"safe": 5, "fault": 7, "library": 10, "all": 11}
+READINGS = {"safe": "A tree, and an accepted message", "fault": "The contract of vet", "library": "The canonical form",
+            "all": "Exclusive messages"}
 # What is proved of each value of a type, without how.
 GHOST = re.compile(r"^    (ghost (\w+): \{(?:[^{}]|\{[^{}]*\})*\})(?: by \{[^{}]*\})?,\n", re.M)
 
 
 class Page:
     def __init__(self, template):
-        rows = re.findall(r"^\| (`.*?`) \| ", template.partition("## 1. ")[2].partition("\n## ")[0], re.M)
+        headings = re.findall(r"^## (.*)$", template, re.M)
+        self.numbers = {name: number for number, name in enumerate(headings, 1)}
+        notation = template.partition(f"## {headings[0]}\n")[2].partition("\n## ")[0]
+        rows = re.findall(r"^\| (`.*?`) \| ", notation, re.M)
         self.names = Names(" ".join(term for row in rows for term in re.findall(r"`([^`]+)`", row)))
         self.template, self.errors, self.out, self.shown, self.parts = template, self.names.errors, [], None, []
         # (the names of each definition, and those that examples cite)
@@ -141,6 +146,16 @@ class Page:
             self.errors.append(f"there is no law {name}")
         return f"`{name}`"
 
+    def part(self, *words):
+        """A link to a part of the page."""
+        name = " ".join(words)
+        if name not in self.numbers:
+            self.errors.append(f"the page has no part {name}")
+            return name
+        number = self.numbers[name]
+        anchor = re.sub(r"[^\w -]", "", f"{number}. {name}".lower()).replace(" ", "-")
+        return f"[part {number}](#{anchor})"
+
     def counts(self):
         """The table of the lines of each part."""
         rows, read = ["| Part | Definitions | Up to here | Types | Clauses | Examples |", "|---|---|---|---|---|---|"], 0
@@ -163,15 +178,17 @@ class Page:
         """The page, or all of its errors."""
         for line in self.template.split("\n"):
             if line.startswith("## "):
+                line = f"## {self.numbers[line[3:]]}. {line[3:]}"
                 self.parts.append({"title": line[3:], "lines": 0, "types": 0, "clauses": 0, "examples": 0})
             if re.fullmatch(r"\{(define|type|member|contract|example|counts)\b.*\}", line):
                 self.out += self.directive(line)
             else:
-                named = re.sub(r"\{(name|unmet|alias|law) [\w /.]+\}", lambda found: self.directive(found[0]), line)
+                named = re.sub(r"\{(name|unmet|alias|law|part) [\w /.,]+\}", lambda found: self.directive(found[0]), line)
                 self.out.append(named)
         text = "\n".join(self.out)
         for reading, last in READINGS.items():
-            text = text.replace(f"{{{reading}}}", str(sum(part["lines"] for part in self.parts[:last])))
+            lines = sum(part["lines"] for part in self.parts[:self.numbers[last]])
+            text = text.replace(f"{{{reading}}}", str(lines))
         self.errors += [f"nothing on the page cites {what}" for what, own in self.defined.items() if not own & self.names.cited]
         self.names.unused()
         if self.errors:

@@ -8,5 +8,6 @@ mod CycleExamples
 mod SharedExamples
 mod CanonicalExamples
 mod StrictExamples
+mod SignExamples
 pub mod HighSteps
 pub mod Trimming
