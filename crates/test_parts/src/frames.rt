@@ -1,10 +1,10 @@
-//! Framed messages that are read in each way, of bytes that are known from outside. `tests/flags.py` has messages that
-//! are found before other bytes, from C, and `tests/filtering.py` messages that are written.
+//! Framed messages that are read in each way, and written, of bytes that are known from outside. `tests/flags.py` has
+//! messages that are found before other bytes, from C, and `tests/filtering.py` more messages that are written.
 
 use crate::same::same;
 use crate::steps::part;
-use cap_frame::{FrameFault, Segments, SizeLimit, read_byte_message, read_message};
-use cap_words::{PlainWords, SliceIn, SourceFault, WordSource, bytes_of};
+use cap_frame::{FrameFault, Segments, SizeLimit, read_byte_message, read_message, write_message};
+use cap_words::{PlainSink, PlainWords, SliceIn, SourceFault, VecOut, WordSource, bytes_of};
 use std::alloc::{AllocError, Global};
 use std::process::Abort;
 use std::test::Fail;
@@ -79,8 +79,14 @@ fn expect_buffer<S: WordSource>(
 // A segment of no words between two others, and a word after the message.
 const THREE: &[u64] = &[0x1_0000_0002, 0x2_0000_0000, 7, 8, 9, 10];
 
-// Padding that isn't zero.
-const PADDED: &[u64] = &[0x1_0000_0001, 0xdead_beef_0000_0001, 5, 6];
+// Padding that isn't zero, and a far pointer to a pad in the second segment.
+const PADDED: &[u64] = &[
+    0x1_0000_0001,
+    0xefbe_adde_0000_0002,
+    0x1_0000_0002,
+    0x1_0000_0000,
+    42,
+];
 
 // Sizes whose sum doesn't fit 32 bits.
 const SUM: &[u64] = &[0xffff_ffff_0000_0001, 0xffff_ffff, 3];
@@ -137,7 +143,13 @@ static CASES: [Case<'static>; 13] = [
         Err(FrameFault::Truncated { byte: 39 }),
         CLOSED,
     ),
-    (PADDED, 32, 2, Ok(Some(&[&[5], &[6]])), Ok(None)),
+    (
+        PADDED,
+        40,
+        3,
+        Ok(Some(&[&[0x1_0000_0002], &[0x1_0000_0000, 42]])),
+        Ok(None),
+    ),
     // One segment without words.
     (&[0], 8, 0, Ok(Some(&[&[]])), Ok(None)),
     // One segment too many.
@@ -184,5 +196,33 @@ fn messages_are_read(rt: HostRuntime) -> Result<(), Fail> {
         let limit = SizeLimit::new(*limit).ok_or("a limit")?;
         expect_each_way(&rt, rt.alloc(), part(&bytes, 0, *len), limit, *want, *then);
     }
+    Ok(())
+}
+
+// A message is written as these bytes.
+fn expect_written<M: Segments>(rt: &impl Abort, alloc: Global, message: &M, bytes: &[u8]) {
+    let mut sink = PlainSink::new(VecOut::new(alloc));
+    same(rt, write_message(&mut sink, message), Ok(()));
+    same(rt, sink.into_inner().bytes(), bytes);
+}
+
+// The same words but for the padding, which is zero.
+const WRITTEN: &[u64] = &[0x1_0000_0001, 2, 0x1_0000_0002, 0x1_0000_0000, 42];
+
+#[test]
+fn padding_is_written_as_zeros(rt: HostRuntime) -> Result<(), Fail> {
+    let bytes = plain(rt.alloc(), PADDED)?;
+    let written = plain(rt.alloc(), WRITTEN)?;
+    let limit = SizeLimit::new(3).ok_or("a limit")?;
+    let mut source = PlainWords::new(SliceIn::new(&bytes));
+    let Ok(Some(message)) = read_message(rt.alloc(), &mut source, limit) else {
+        return Err("no message in vectors".into());
+    };
+    expect_written(&rt, rt.alloc(), &message, &written);
+    let mut source = PlainWords::new(SliceIn::new(&bytes));
+    let Ok(Some(message)) = read_byte_message(rt.alloc(), &mut source, limit) else {
+        return Err("no message in a buffer".into());
+    };
+    expect_written(&rt, rt.alloc(), &message.view(), &written);
     Ok(())
 }

@@ -14,7 +14,7 @@ const GROUPS: &[u8] = &[
 // A text, calls of a source of its words, and calls of the input that the source gives back.
 type Row = (&'static [u8], &'static [Takes], &'static [Reads]);
 
-static ROWS: [Row; 4] = [
+static ROWS: [Row; 5] = [
     // The position after each word.
     (
         GROUPS,
@@ -47,6 +47,22 @@ static ROWS: [Row; 4] = [
             Takes::Next(Ok(Some(0))),
         ],
         &[Reads::Read(32, Ok(20)), Reads::Gave(0, 4, 20)],
+    ),
+    // A word and a run of two, the last of which isn't whole.
+    (
+        &[
+            0xff, 0x8a, 0x8a, 0x8a, 0x8a, 0x8a, 0x8a, 0x8a, 0x8a, 2, 0x8a, 0x8a, 0x8a, 0x8a, 0x8a,
+            0x8a, 0x8a, 0x8a, 0x8a, 0x8a, 0x8a, 0x8a,
+        ],
+        &[
+            Takes::Next(Ok(Some(0x8a8a_8a8a_8a8a_8a8a))),
+            Takes::Next(Ok(Some(0x8a8a_8a8a_8a8a_8a8a))),
+            Takes::Next(Err(SourceFault::Truncated { byte: 22 })),
+            Takes::Position(22),
+            Takes::Next(Err(SourceFault::Spent)),
+            Takes::Next(Err(SourceFault::Spent)),
+        ],
+        &[],
     ),
     // Zero words that are still to be given are no buffered bytes.
     (
