@@ -19,12 +19,21 @@ SOURCES = crates.txt $(shell find crates -name out -prune -o \( -name '*.rt' -o 
 BUILT_PROGRAM = build/capvet
 BUILT_ARCHIVE = build/libcapvet.a
 
+# The first line of a recipe that proves something: without `rt` it is the end, before anything is done.
+NEEDS_RT = $(if $(shell command -v rt),,$(error make $(or $(MAKECMDGOALS),run) needs `rt` of Rattle's kit, which is not on the path: \
+  docs/install.md says more, and has packages that need no `rt`))
+# Whether the proved program is in build/ and no source is newer.
+IS_CURRENT = $(shell $(MAKE) -sq '$(BUILT_PROGRAM)' 2> /dev/null && echo yes)
+
 # The version of the calls, as their header has it.
 VERSION = $(shell sed -n 's/^.define CAPVET_VERSION_[A-Z]* \([0-9]*\)$$/\1/p' include/capvet.h | paste -sd.)
 
-# Shows what the program writes for a stream of four sample messages, from a build that is not proved.
+# Shows what the program writes for a stream of four sample messages: the proved program of build/, or else a build that is not
+# proved.
 run:
-	@folder=$$(mktemp -d) && trap 'rm -r "$$folder"' EXIT && \
+	$(if $(IS_CURRENT),,$(NEEDS_RT))
+	@if test -n '$(IS_CURRENT)'; then '$(BUILT_PROGRAM)' vet examples/stream-of-four.bin && echo "This build is proved."; exit; fi; \
+	folder=$$(mktemp -d) && trap 'rm -r "$$folder"' EXIT && \
 	cp examples/stream-of-four.bin "$$folder/vet" && echo vet > "$$folder/vet.args" && \
 	cd crates/capvet && rt try --cases "$$folder" && \
 	echo "This build is not proved yet: 'make test' proves it."
@@ -37,6 +46,7 @@ ifdef TARGET
 endif
 
 build/capvet build/libcapvet.a &: $(SOURCES)
+	$(NEEDS_RT)
 	python3 tests/prove.py --code
 
 # Builds the proxy before services, in Go, by the libraries that Debian has as packages (docs/service.md names them). Nothing
@@ -71,13 +81,23 @@ CMAKE_FILES = capvetConfig.cmake capvetConfigVersion.cmake
 # The headers for programs over libcapnp.
 KJ_HEADERS = kj.h kj-message.h kj-stream.h kj-server.h
 
+# The folders that files are put into.
+FOLDERS = '$(DESTDIR)$(bindir)' '$(DESTDIR)$(mandir)/man1' '$(DESTDIR)$(mandir)/man3' '$(DESTDIR)$(completionsdir)' \
+  '$(DESTDIR)$(zshdir)' '$(DESTDIR)$(fishdir)' '$(DESTDIR)$(includedir)/capvet' '$(DESTDIR)$(libdir)' \
+  '$(DESTDIR)$(pkgconfigdir)' '$(DESTDIR)$(cmakedir)'
+# The first of these that can't be made or written, by what is there of it. (`make install` ends then, before it proves anything)
+NO_FOLDER = $(shell for folder in $(FOLDERS); do \
+  until test -e "$$folder"; do folder=$$(dirname "$$folder"); done; \
+  test -d "$$folder" && test -w "$$folder" && test -x "$$folder" || { echo "$$folder"; break; }; done)
+ifneq ($(filter install,$(MAKECMDGOALS)),)
+$(if $(filter /%,$(firstword $(PREFIX))),,$(error PREFIX has to be a path from /, and is '$(PREFIX)'))
+$(if $(NO_FOLDER),$(error make install can write nothing into $(NO_FOLDER): name a folder of yours, as in make install PREFIX=$$HOME/x))
+endif
+
 # Puts the program and its completions under PREFIX, the library with its headers and what pkg-config and CMake want to
 # know, and the manual pages of both; builds first what has a newer source.
 install: $(BUILT_PROGRAM) $(BUILT_ARCHIVE)
-	@case '$(PREFIX)' in /*) ;; *) echo "PREFIX has to be a path from /, and is '$(PREFIX)'" >&2; exit 2;; esac
-	$(INSTALL) -d '$(DESTDIR)$(bindir)' '$(DESTDIR)$(mandir)/man1' '$(DESTDIR)$(mandir)/man3'
-	$(INSTALL) -d '$(DESTDIR)$(completionsdir)' '$(DESTDIR)$(zshdir)' '$(DESTDIR)$(fishdir)'
-	$(INSTALL) -d '$(DESTDIR)$(includedir)/capvet' '$(DESTDIR)$(libdir)' '$(DESTDIR)$(pkgconfigdir)' '$(DESTDIR)$(cmakedir)'
+	$(INSTALL) -d $(FOLDERS)
 	$(INSTALL) -m 755 '$(BUILT_PROGRAM)' '$(DESTDIR)$(bindir)/capvet'
 	$(INSTALL) -m 644 docs/capvet.1 '$(DESTDIR)$(mandir)/man1/capvet.1'
 	$(INSTALL) -m 644 docs/capvet.3 '$(DESTDIR)$(mandir)/man3/capvet.3'
@@ -105,6 +125,7 @@ uninstall:
 # Packs all for users into dist/: see packaging/dist.py, and there DIST_FLAGS.
 DIST_FLAGS ?=
 dist: $(BUILT_PROGRAM) $(BUILT_ARCHIVE)
+	$(NEEDS_RT)
 	python3 packaging/dist.py $(DIST_FLAGS)
 
 # Builds the wheel of the package for Python, with the archive linked in, and with the inspector where esbuild is. It takes cffi, setuptools and wheel from the first
@@ -129,10 +150,12 @@ pages:
 # Checks a change of one crate, as in `make check CRATE=cap_vet`: the crate, those above it, the must-fail edits that the change
 # reaches, and the scripts that its behaviour is in.
 check:
+	$(NEEDS_RT)
 	@python3 tests/check.py $(CRATE)
 
 # Proves all crates of code, runs all tests in Rattle, and then tests the built program and library as their users run them.
 test:
+	$(NEEDS_RT)
 	python3 tests/all.py
 
 # The same with all cases of each script. The tests in Rattle are proved too, and the prover has to refuse each must-fail edit;
@@ -141,16 +164,19 @@ test:
 # names of tests/needs.py in SKIP, as in `make gate SKIP="go wheel"`.
 SKIP ?=
 gate:
+	$(NEEDS_RT)
 	python3 tests/all.py --edits $(if $(ANEW),--anew) --full --skip "$(SKIP)"
 	@$(MAKE) --no-print-directory allocations
 	python3 tests/lifetimes.py
 
 # Tries wrong bodies of public functions, and compares those that the contracts let through with tests/planted.txt.
 plant:
+	$(NEEDS_RT)
 	python3 tests/plant.py
 
 # Out-of-memory tests: each allocation fails in turn, first of the calls that allocate, then of the built program.
 allocations:
+	$(NEEDS_RT)
 	python3 tests/allocations.py
 	python3 tests/refusals.py build/capvet
 

@@ -1,9 +1,10 @@
 #!/usr/bin/env python3
 """Installs the built program and library into scratch folders as their users do, and compares what is there.
 
-`make install` puts each file where PREFIX and DESTDIR say, with its mode, and `make uninstall` removes just these. The manual
-pages are read without a warning. The page of the program has the commands and options of help, and shows what the program
-writes. The page of the library has each call of the header. Bash completes each place of a command line.
+`make install` puts each file where PREFIX and DESTDIR say, with its mode, and `make uninstall` removes just these. Where it can't
+put them there, it says so before anything is proved, and so does each target that needs `rt` where there is none. `make run` shows
+what is built. The manual pages are read without a warning. The page of the program has the commands and options of help, and shows
+what the program writes. The page of the library has each call of the header. Bash completes each place of a command line.
 
     install.py [PROGRAM [ARCHIVE]]
 
@@ -13,12 +14,13 @@ installed.
 """
 import os
 import re
+import shutil
 import sys
 import tempfile
 from pathlib import Path
 
 from harness import ARCHIVE, PROGRAM, TOP, compare, ended, run
-from needs import missing
+from needs import has, missing, path_without
 
 COMPLETIONS = {"share/bash-completion/completions/capvet": "capvet.bash", "share/zsh/site-functions/_capvet": "_capvet",
                "share/fish/vendor_completions.d/capvet.fish": "capvet.fish"}
@@ -37,6 +39,17 @@ FILES = {"bin/capvet": (0o755, PROGRAM), PAGE: (0o644, TOP / "docs/capvet.1"),
          f"{PACKAGE}/capvetConfig.cmake": (0o644, None), f"{PACKAGE}/capvetConfigVersion.cmake": (0o644, None)}
 COMMANDS = ("segments", "vet", "explain", "filter", "dump", "get", "check", "canon", "pack", "unpack")
 CONTACTS = "message 0: accepted charge 391 depth 11 pointers 125 caps 0\n"
+# What make prints before a sentence, and after it.
+ENDS = re.compile(r"Makefile:\d+: \*\*\* (.*)\.  Stop\.\n")
+# The superuser without the rights that other users lack.
+WITHOUT_RIGHTS = ("setpriv", "--bounding-set=-all", "--inh-caps=-all") if has("root") else ()
+
+
+def plain(path):
+    """The environment of a user with this path, without what a `make` before this one has set."""
+    reported = ("PREFIX", "DESTDIR", "bindir", "libdir", "includedir", "mandir", "pkgconfigdir", "cmakedir", "completionsdir", "zshdir",
+                "fishdir", "INSTALL", "MAKEFLAGS", "MAKELEVEL")
+    return {name: value for name, value in os.environ.items() if name not in reported} | {"PATH": path}
 
 
 def make(target, folder, *variables):
@@ -46,11 +59,8 @@ def make(target, folder, *variables):
     for tool in ("rt", "cargo", "cc"):
         (refused / tool).write_text(f"#!/bin/sh\necho {tool} was called\nexit 1\n")
         (refused / tool).chmod(0o755)
-    reported = ("PREFIX", "DESTDIR", "bindir", "libdir", "includedir", "mandir", "pkgconfigdir", "cmakedir", "completionsdir", "zshdir",
-            "fishdir", "INSTALL", "MAKEFLAGS", "MAKELEVEL")
-    environment = {name: value for name, value in os.environ.items() if name not in reported}
-    environment["PATH"] = f"{refused}:{os.environ['PATH']}"
-    return run(["make", "-s", target, f"BUILT_PROGRAM={PROGRAM}", f"BUILT_ARCHIVE={ARCHIVE}", *variables], cwd=TOP, env=environment)
+    return run(["make", "-s", target, f"BUILT_PROGRAM={PROGRAM}", f"BUILT_ARCHIVE={ARCHIVE}", *variables], cwd=TOP,
+               env=plain(f"{refused}:{os.environ['PATH']}"))
 
 
 def files_of(folder):
@@ -90,6 +100,51 @@ def works(prefix):
             compare(f"man {section} capvet", (True, 0), (found, status))
             text = run(["man", "--warnings", "-l", "-Tutf8", "-Z", prefix / name], env={**environment, "MANWIDTH": "80"})
             compare(f"warnings of {name}", [], [line for line in text[0].splitlines() if "warning" in line])
+
+
+def ends(name, expected, folder, path, *command):
+    """A case: in a tree where nothing is built a command ends with status 2, and one sentence is all that it prints."""
+    text, status = run(command, cwd=unbuilt(folder), env=plain(path))
+    said = ENDS.fullmatch(text)
+    compare(name, (expected, 2), (said[1] if said else text, status))
+
+
+def can_not_install(folder):
+    """Where nothing can be installed, the end comes before any proof: nothing is built in this tree, and `rt` would fail."""
+    folder = Path(folder)
+    (folder / "file").touch()
+    (folder / "others").mkdir(mode=0o555)
+    refused = {"x": "PREFIX has to be a path from /, and is 'x'", "": "PREFIX has to be a path from /, and is ''"}
+    refused |= {f"{folder}/{name}/x": f"make install can write nothing into {folder}/{name}: name a folder of yours, as in "
+                "make install PREFIX=$HOME/x" for name in ("file", "others")}
+    for prefix, expected in refused.items():
+        ends(f"make install PREFIX={prefix}", expected, folder, os.environ["PATH"], *WITHOUT_RIGHTS, "make", "install", f"PREFIX={prefix}")
+
+
+def unbuilt(folder):
+    """A tree in which nothing is built, with what make reads of it."""
+    tree = Path(folder) / "unbuilt"
+    if not tree.exists():
+        (tree / "crates").mkdir(parents=True)
+        for name in ("Makefile", "crates.txt"):
+            shutil.copy(TOP / name, tree)
+        shutil.copytree(TOP / "include", tree / "include")
+    return tree
+
+
+def without_rt(folder):
+    """Without `rt` each target that would prove something ends at once, and those for which nothing has to be proved work."""
+    (Path(folder) / "path").mkdir()
+    path = path_without("rt", Path(folder) / "path")
+    for target in ("run", "test", "build", "install", "check", "gate", "dist", "wheel", "guard"):
+        ends(f"make {target} without rt", f"make {target} needs `rt` of Rattle's kit, which is not on the path: docs/install.md says "
+             "more, and has packages that need no `rt`", folder, path, "make", target, f"PREFIX={folder}/x")
+
+
+def shown(folder):
+    """`make run` shows what the proved program writes."""
+    text, status = make("run", folder)
+    compare("make run", (run([PROGRAM, "vet", TOP / "examples/stream-of-four.bin"])[0] + "This build is proved.\n", 0), (text, status))
 
 
 def without_faces(line):
@@ -237,10 +292,11 @@ def main():
         installed(scratch, prefix, f"PREFIX={prefix}")
         stage = Path(scratch) / "stage"
         installed(scratch, stage / "usr", "PREFIX=/usr", f"DESTDIR={stage}")
-        text, status = make("install", scratch, "PREFIX=usr", f"DESTDIR={stage}/")
-        compare("make install, with a prefix that isn't whole",
-                ("PREFIX has to be a path from /, and is 'usr'\n", False), (text.partition("make:")[0], status == 0))
+        compare("make install, with a prefix that isn't whole", 2, make("install", scratch, "PREFIX=usr", f"DESTDIR={stage}/")[1])
         compare("files of a prefix that isn't whole", ["usr/bin/other"], list(files_of(stage)))
+        can_not_install(scratch)
+        without_rt(scratch)
+        shown(scratch)
     options()
     calls()
     versions()

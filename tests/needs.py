@@ -28,10 +28,10 @@ LEAST_RUST = 63
 # Commands, each with its package.
 COMMANDS = {"aarch64-linux-gnu-gcc": "gcc-aarch64-linux-gnu libc6-dev-arm64-cross", "arch-test": "arch-test", "bash": "bash",
             "buildah": "buildah", "c++": "g++", "capnp": "capnproto", "cargo": "cargo", "cargo-clippy": "rust-clippy",
-            "cc": "gcc", "chromium": "chromium", "clang": "clang", "clang++": "clang", "cmake": "cmake", "dpkg": "dpkg",
-            "dpkg-deb": "dpkg", "dpkg-scanpackages": "dpkg-dev", "esbuild": "esbuild", "fish": "fish", "g++": "g++", "gcc": "gcc", "git": "git",
+            "cc": "gcc libc6-dev", "chromium": "chromium", "clang": "clang", "clang++": "clang", "cmake": "cmake", "dpkg": "dpkg",
+            "dpkg-deb": "dpkg", "dpkg-scanpackages": "dpkg-dev", "esbuild": "esbuild", "fish": "fish", "g++": "g++", "gcc": "gcc libc6-dev", "git": "git",
             "go": "golang-go", "go-staticcheck": "go-staticcheck", "jq": "jq", "lintian": "lintian", "llvm-cov-14": "llvm-14",
-            "make": "make", "man": "man-db", "mmdebstrap": "mmdebstrap", "mypy": "mypy", "node": "nodejs", "openssl": "openssl",
+            "make": "make", "man": "man-db", "mmdebstrap": "mmdebstrap", "mypy": "mypy", "node": "nodejs", "npm": "npm", "openssl": "openssl",
             "parallel": "parallel", "pkg-config": "pkg-config", "qemu-aarch64": "qemu-user",
             "qemu-aarch64-static": "qemu-user-static", "qemu-x86_64": "qemu-user", "readelf": "binutils", "rt": "",
             "rustc": "rustc", "rustfmt": "rustfmt", "socat": "socat", "tsc": "node-typescript", "twine": "twine", "unzip": "unzip", "valgrind": "valgrind",
@@ -48,8 +48,8 @@ LIBRARIES = {"libcapnp": (("pkg-config", "--exists", "capnp-rpc"), "libcapnp-dev
 SOURCES = {"crate-capnp": ("capnp-0.14.*", "librust-capnp-dev"),
            "crate-capnp-rpc": ("capnp-rpc-0.14.*", "librust-capnp-rpc-dev librust-futures-dev"),
            "crate-tokio": ("tokio-util-0.7.*", "librust-tokio-dev librust-tokio-util-dev")}
-# The headers of the C library for arm64, which the compiler only recommends.
-ARM_HEADERS = Path("/usr/aarch64-linux-gnu/include/stdlib.h")
+# Compilers, each with its language. (their packages only recommend the headers and libraries that a program needs)
+COMPILERS = {"aarch64-linux-gnu-gcc": "c", "cc": "c", "gcc": "c", "clang": "c", "c++": "c++", "g++": "c++", "clang++": "c++"}
 # Where Debian's packages of Go libraries put them, and the libraries of the guard.
 GOCODE = Path("/usr/share/gocode/src")
 GO_LIBRARIES = {"go-prometheus": ("github.com/prometheus/client_golang", "golang-github-prometheus-client-golang-dev"),
@@ -103,6 +103,13 @@ def python_with(modules):
     return None
 
 
+def compiles(compiler, language, *options):
+    """Whether a compiler is there, and makes a program that the C library is linked into."""
+    text = "#include <stdlib.h>\nint main(void) { exit(0); }\n"
+    with tempfile.TemporaryDirectory() as folder:
+        return succeeds((compiler, *options, "-x", language, "-", "-o", "empty"), input=text, cwd=folder)
+
+
 @functools.cache
 def has(name):
     """Whether this machine has what is meant by a name of NEEDS."""
@@ -110,8 +117,8 @@ def has(name):
         return python_with(MODULES[name][0]) is not None
     if name in LIBRARIES:
         return succeeds(LIBRARIES[name][0])
-    if name == "aarch64-linux-gnu-gcc" and not ARM_HEADERS.exists():
-        return False
+    if name in COMPILERS:
+        return compiles(name, COMPILERS[name])
     if name == "debian-mirror":
         return mirror() != "" and is_there(f"{mirror()}/dists/bookworm/Release")
     if name == "root":
@@ -125,13 +132,21 @@ def has(name):
     if name in GO_LIBRARIES:
         return (GOCODE / GO_LIBRARIES[name][0]).is_dir()
     if name in CHECKS:
-        words = ("-fsanitize=address,undefined", "-x", "c++", "-", "-o", "empty")
-        with tempfile.TemporaryDirectory() as folder:
-            return succeeds((CHECKS[name][0], *words), input="int main() {}", cwd=folder)
+        return compiles(CHECKS[name][0], "c++", "-fsanitize=address,undefined")
     if name == "rustc":
         version = re.match(r"rustc 1\.(\d+)", output("rustc", "--version"))
         return version is not None and int(version[1]) >= LEAST_RUST
     return shutil.which(name) is not None
+
+
+def path_without(tool, folder):
+    """Makes a folder the only one of a path that has all commands of this machine but one."""
+    for part in reversed(os.environ["PATH"].split(":")):
+        for file in Path(part).glob("*") if part else ():
+            if file.name != tool:
+                (folder / file.name).unlink(missing_ok=True)
+                (folder / file.name).symlink_to(file)
+    return str(folder)
 
 
 def line(what, name):
