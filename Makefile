@@ -147,6 +147,11 @@ wheel: $(BUILT_ARCHIVE)
 pages:
 	python3 packaging/written/write.py
 
+# Writes the text of the crates without contracts, as plain Rust: rust/core and rust/capvet-cli.
+.PHONY: erase
+erase:
+	python3 tools/erase/erase.py
+
 # Checks a change of one crate, as in `make check CRATE=cap_vet`: the crate, those above it, the must-fail edits that the change
 # reaches, and the scripts that its behaviour is in.
 check:
@@ -173,6 +178,13 @@ gate:
 plant:
 	$(NEEDS_RT)
 	python3 tests/plant.py
+
+# What takes longer than a gate: for 1,000,000 messages each call of the text without contracts does what the proved library does,
+# and this comparison sees changes that are planted in the text.
+.PHONY: long
+long: $(BUILT_PROGRAM) $(BUILT_ARCHIVE)
+	python3 tests/plain_faults.py '$(BUILT_PROGRAM)' '$(BUILT_ARCHIVE)'
+	python3 tests/plain.py '$(BUILT_PROGRAM)' '$(BUILT_ARCHIVE)' --long
 
 # Out-of-memory tests: each allocation fails in turn, first of the calls that allocate, then of the built program.
 allocations:

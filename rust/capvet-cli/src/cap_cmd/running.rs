@@ -1,0 +1,269 @@
+// crates/cap_cmd/src/running.rt without its contracts, by tools/erase: that text is proved, this one is only tested.
+//! Doing a job: its engine is run over an input, an output and an output for faults. The exit status
+//! is 0 if all is well, 1 for what the input is, and 3 for a failed device or if memory ran out.
+
+use crate::cap_cmd::command_line::{Job, Task};
+use crate::cap_run::{
+    run_canon_with, run_check_with, run_dump_with, run_explain, run_explain_exclusive, run_filter,
+    run_get_with, run_pack, run_segments, run_unpack, run_vet_exclusive_with, run_vet_with,
+    write_copy_fault, write_explained_fault, write_fault, Cause, CopyFault, ExplainedFault,
+    Outcome, Peek, RunFault,
+};
+use capvet_core::cap_canon::CanonFault;
+use capvet_core::cap_frame::FrameFault;
+use capvet_core::cap_pack::{Packer, Unpacker};
+use capvet_core::cap_words::{
+    ByteIn, ByteOut, PlainSink, PlainWords, SourceFault, WordSink, WordSource,
+};
+use capvet_core::rattle::alloc::Global;
+
+/// The most words that are packed or unpacked.
+const MOST_WORDS: u64 = 1099511627776;
+
+/// Whether the input of a job is packed.
+fn input_is_packed(job: &Job) -> bool {
+    match &job.task {
+        Task::Segments | Task::Vet { .. } | Task::Explain { .. } => job.settings.packed,
+        Task::Dump | Task::Get { .. } => job.settings.packed,
+        Task::Filter { .. } | Task::Check | Task::Canon => job.settings.packed,
+        Task::Pack => false,
+        Task::Unpack => true,
+    }
+}
+
+/// Writes the line of the fault that ended a run, if there is one, and returns the exit status.
+fn report_run<E: ByteOut>(err: &mut E, answer: &Result<Outcome, RunFault>) -> u8 {
+    if let Err(fault) = answer {
+        let _ = write_fault(err, fault);
+    }
+    stream_status(answer)
+}
+
+/// Writes the line of the fault that ended a run and the lines that explain it, if there is one, and
+/// returns the exit status.
+fn report_explained<E: ByteOut>(err: &mut E, answer: &Result<Outcome, ExplainedFault>) -> u8 {
+    if let Err(fault) = answer {
+        let _ = write_explained_fault(err, fault);
+    }
+    explained_status(answer)
+}
+
+/// Writes the line of the fault that ended packing or unpacking, if there is one, and returns the
+/// exit status.
+fn report_transcode<E: ByteOut>(err: &mut E, answer: &Result<u64, CopyFault>) -> u8 {
+    if let Err(fault) = answer {
+        let _ = write_copy_fault(err, fault);
+    }
+    words_status(answer)
+}
+
+/// Writes the canonical copies of messages to an output, and returns the exit status and the
+/// output.
+fn canon_over<S: Peek, O: ByteOut, E: ByteOut>(
+    alloc: Global,
+    job: &Job,
+    source: &mut S,
+    out: O,
+    err: &mut E,
+) -> (u8, O) {
+    let mut sink = PlainSink::new(out);
+    let answer = run_canon_with(alloc, source, &mut sink, &job.settings, job.demands);
+    (report_run(err, &answer), sink.into_inner())
+}
+
+/// Packs words to an output, and returns the exit status and the output.
+fn pack_over<S: Peek, O: ByteOut, E: ByteOut>(
+    job: &Job,
+    source: &mut S,
+    out: O,
+    err: &mut E,
+) -> (u8, O) {
+    let mut sink = Packer::new(out);
+    let answer = run_pack(source, &mut sink, MOST_WORDS, job.settings.live);
+    (report_transcode(err, &answer), sink.into_inner())
+}
+
+/// Writes words to an output as they are, and returns the exit status and the output.
+fn unpack_over<S: Peek, O: ByteOut, E: ByteOut>(
+    job: &Job,
+    source: &mut S,
+    out: O,
+    err: &mut E,
+) -> (u8, O) {
+    let mut sink = PlainSink::new(out);
+    let answer = run_unpack(source, &mut sink, MOST_WORDS, job.settings.live);
+    (report_transcode(err, &answer), sink.into_inner())
+}
+
+/// Vets each message, exclusively if that is asked, and returns the exit status.
+fn vet_over<S: Peek, O: ByteOut, E: ByteOut>(
+    alloc: Global,
+    exclusive: bool,
+    job: &Job,
+    source: &mut S,
+    out: &mut O,
+    err: &mut E,
+) -> u8 {
+    let (settings, demands) = (&job.settings, job.demands);
+    if exclusive {
+        let answer = run_vet_exclusive_with(alloc, source, out, settings, demands);
+        report_run(err, &answer)
+    } else {
+        let answer = run_vet_with(alloc, source, out, settings, demands);
+        report_run(err, &answer)
+    }
+}
+
+/// Vets each message, exclusively if that is asked, explains each refusal, and returns the exit
+/// status.
+fn explain_over<S: Peek, O: ByteOut, E: ByteOut>(
+    alloc: Global,
+    exclusive: bool,
+    job: &Job,
+    source: &mut S,
+    out: &mut O,
+    err: &mut E,
+) -> u8 {
+    let (settings, demands) = (&job.settings, job.demands);
+    if exclusive {
+        let answer = run_explain_exclusive(alloc, source, out, settings, demands);
+        report_explained(err, &answer)
+    } else {
+        let answer = run_explain(alloc, source, out, settings, demands);
+        report_explained(err, &answer)
+    }
+}
+
+/// Does a job over the words of its input.
+fn run_over<S: Peek, O: ByteOut, E: ByteOut>(
+    alloc: Global,
+    job: &Job,
+    source: S,
+    out: O,
+    err: &mut E,
+) -> (u8, O) {
+    let (mut source, mut out, settings, demands) = (source, out, &job.settings, job.demands);
+    match &job.task {
+        Task::Segments => {
+            let answer = run_segments(&mut source, &mut out, settings);
+            (report_run(err, &answer), out)
+        }
+        Task::Vet { exclusive } => {
+            let status = vet_over(alloc, *exclusive, job, &mut source, &mut out, err);
+            (status, out)
+        }
+        Task::Explain { exclusive } => {
+            let status = explain_over(alloc, *exclusive, job, &mut source, &mut out, err);
+            (status, out)
+        }
+        Task::Filter { form } => {
+            let answer = run_filter(alloc, &mut source, &mut out, err, settings, demands, *form);
+            (report_run(err, &answer), out)
+        }
+        Task::Dump => {
+            let answer = run_dump_with(alloc, &mut source, &mut out, settings, demands);
+            (report_run(err, &answer), out)
+        }
+        Task::Get { path } => {
+            let path = path.as_slice();
+            let answer = run_get_with(alloc, &mut source, &mut out, settings, demands, path);
+            (report_run(err, &answer), out)
+        }
+        Task::Check => {
+            let answer = run_check_with(alloc, &mut source, &mut out, settings, demands);
+            (report_run(err, &answer), out)
+        }
+        Task::Canon => canon_over(alloc, job, &mut source, out, err),
+        Task::Pack => pack_over(job, &mut source, out, err),
+        Task::Unpack => unpack_over(job, &mut source, out, err),
+    }
+}
+
+/// Does a job: reads the input, writes to the output, and writes the line of a fault to `err`. If
+/// the task is [`Task::Filter`], the lines of refused messages go to `err` too, before that of a
+/// fault. It returns the exit status and the output. A line that can't be written changes no status.
+///
+/// # Status
+///
+/// - 0: every message was accepted, and is canonical if the task is [`Task::Check`]; or all words
+///   were copied.
+/// - 1, for a message: it was refused, or it doesn't meet the demands of the job, or it has a
+///   capability and a copy is needed. Also if it uses a word twice and the job forbids that, or isn't
+///   canonical and the task is [`Task::Check`].
+/// - 1, for the input: it is no stream of messages within the limits, is cut inside a word or a
+///   group, or has more words than are copied.
+/// - 3: reading or writing failed, the input or the output was closed after an error, or an
+///   allocation failed.
+pub fn run_job<I: ByteIn, O: ByteOut, E: ByteOut>(
+    alloc: Global,
+    job: &Job,
+    input: I,
+    out: O,
+    err: &mut E,
+) -> (u8, O) {
+    if input_is_packed(job) {
+        run_over(alloc, job, Unpacker::new(input), out, err)
+    } else {
+        run_over(alloc, job, PlainWords::new(input), out, err)
+    }
+}
+
+/// The exit status of a fault at a message.
+fn fault_status(cause: Cause) -> u8 {
+    match cause {
+        Cause::TooManyMessages => 1,
+        Cause::Frame(fault) => match fault {
+            FrameFault::TooManySegments { count: _ } => 1,
+            FrameFault::TooLarge { words: _ } => 1,
+            FrameFault::Truncated { byte: _ } => 1,
+            FrameFault::Device => 3,
+            FrameFault::Memory => 3,
+            FrameFault::Spent => 3,
+        },
+        Cause::Output(_) => 3,
+        Cause::Refused(_) => 1,
+        Cause::NotStrict(_) => 1,
+        Cause::Canon(CanonFault::HasCapability { .. }) => 1,
+        Cause::Canon(CanonFault::Memory) => 3,
+        Cause::Memory => 3,
+    }
+}
+
+/// The exit status of an outcome: 0 where every message was accepted.
+fn outcome_status(outcome: &Outcome) -> u8 {
+    if outcome.refused == 0 && outcome.noncanonical == 0 {
+        0
+    } else {
+        1
+    }
+}
+
+/// The exit status of an engine's answer: 0 where every message was accepted.
+pub(crate) fn stream_status(answer: &Result<Outcome, RunFault>) -> u8 {
+    match answer {
+        Ok(outcome) => outcome_status(outcome),
+        Err(fault) => fault_status(fault.cause),
+    }
+}
+
+/// The exit status of the answer of an engine that explains, by the same rule.
+pub(crate) fn explained_status(answer: &Result<Outcome, ExplainedFault>) -> u8 {
+    match answer {
+        Ok(outcome) => outcome_status(outcome),
+        Err(fault) => fault_status(fault.fault.cause),
+    }
+}
+
+/// The exit status of a copy's answer: 0 where all words were copied.
+pub(crate) fn words_status(answer: &Result<u64, CopyFault>) -> u8 {
+    match answer {
+        Ok(_) => 0,
+        Err(CopyFault::TooManyWords) => 1,
+        Err(CopyFault::Source(fault)) => match fault {
+            SourceFault::Truncated { byte: _ } => 1,
+            SourceFault::Device => 3,
+            SourceFault::Spent => 3,
+        },
+        Err(CopyFault::Output(_)) => 3,
+    }
+}

@@ -1,0 +1,153 @@
+// crates/cap_commands/src/help.rt without its contracts, by tools/erase: that text is proved, this one is only tested.
+//! The texts of help.
+
+/// The version that `--version` prints.
+pub(crate) const VERSION: &str = "1.1.0";
+
+/// The help of the program, after the list of its commands.
+pub(crate) const PROGRAM_NOTES: &str = "\
+The input is a stream of framed messages. A framed message is a table with the sizes of its
+segments, followed by the segments in words of 8 bytes. Without FILE a command reads standard input.
+
+Exit status:
+  0  every message was accepted, and is canonical for 'check'; or every word was copied;
+     or the input is empty
+  1  a message was refused, is not canonical for 'check' or has a capability for 'canon';
+     or the input is cut short, or is not a stream of messages within the limits
+  2  the command line is wrong
+  3  a file does not open, reading or writing failed, or memory ran out
+
+Example:
+  $ capvet vet examples/contacts.bin
+  message 0: accepted charge 391 depth 11 pointers 125 caps 0";
+
+/// The help of `segments`, after the list of its options.
+pub(crate) const SEGMENTS_NOTES: &str = "\
+Example:
+  $ capvet segments examples/contacts.bin
+  message 0: segments 1 words 392
+  segment 0: 392
+  root 0000000001000300";
+
+/// The help of `vet`, after the list of its options.
+pub(crate) const VET_NOTES: &str = "\
+For an accepted message it prints four numbers. The charge is the number of words that a full
+traversal reads; a target that is reached twice counts twice. The depth is the deepest level of an
+object; the structs of a list are one level below the list. Then come the numbers of pointers, null
+pointers too, and of capabilities. For a refused message it prints the reason, and the SEGMENT:WORD
+of the first pointer that is wrong.
+
+With --strict a message is also refused in a form that common readers reject. ManySegments: it has
+512 segments. NullPad or CapabilityPad: a landing pad of one word is zero, or a capability.
+EmptySegment: a pointer leads into a segment without words. With --unamplified the charge may be at
+most the words of the message's segments plus 4096. A service should use both options.
+
+With --exclusive a message is also refused, as Overlap, if a pointer leads to a word that is already
+in use: the root word, a word of the same pointer, or a word of an earlier pointer. The charge is
+then less than the words of the message, apart from list elements that have no bits or no words.
+
+Example:
+  $ capvet vet --depth 3 examples/contacts.bin
+  message 0: refused DepthLimit at 0:7 pointers 3";
+
+/// The help of `explain`, after the list of its options.
+pub(crate) const EXPLAIN_NOTES: &str = "\
+After the line of 'vet', a refused message has lines that explain the refusal. They begin with the
+path to the pointer, as 'get' takes it, and the byte of the pointer in the message and in the input.
+Then comes the pointer word with its form and its fields, and so does each word of its landing pad.
+The next lines have the words of its target, its tag if it is a list of structs, and the segment
+that the pointer leads into, with its length. Then come what is exceeded, if something is, and the
+reason as a sentence. For Overlap a last line, 'first used by', names the earlier pointer that uses
+the same word, if there is one. If the input breaks off inside a message, or a message is too large,
+standard error has the line of this fault. Lines after it say where the message begins, what its
+table says, and the reason. The options are those of 'vet'.
+
+'pointers N' counts the pointers that were looked at, the named one included. In a path, pN is
+pointer N and iN is element N, both counted from 0. A place is SEGMENT:WORD, both counted from 0,
+and 'A to B' includes both places. A word in hex is its bytes, in the order of the unpacked input.
+
+Example:
+  $ capvet explain --depth 3 examples/contacts.bin
+  message 0: refused DepthLimit at 0:7 pointers 3
+    path /p0/i0/p0
+    byte 64 of the message, byte 64 of the input
+    pointer bd0000000a010000 list of bytes, offset 47, elements 33
+    target 0:55 to 0:59, words 5
+    leads into segment 0, words 392
+    level 4, limit 3
+    reason the target is at a deeper level than the limit allows";
+
+/// The help of `filter`, after the list of its options.
+pub(crate) const FILTER_NOTES: &str = "\
+It writes an accepted message in one plain frame: a table with zero padding, and all its segments as
+they came. This goes out before the next message is read. A message is accepted if 'vet --strict
+--unamplified' accepts it; --allow-nonstrict and --allow-amplified each leave out one of these two.
+For a refused message the line of 'vet' goes to standard error, and the run goes on.
+
+With --stop the run ends after the first refused message, for a protocol in which a missing message
+breaks the rest. With --pack the output is packed, its table and each segment by itself. With
+--exclusive a message is refused as in 'vet'.
+
+Example:
+  $ cat examples/cycle.bin examples/contacts.bin | capvet filter | capvet vet
+  message 0: refused DepthLimit at 0:0 pointers 65
+  message 0: accepted charge 391 depth 11 pointers 125 caps 0";
+
+/// The help of `dump`, after the list of its options.
+pub(crate) const DUMP_NOTES: &str = "\
+After the line of 'vet', an accepted message has the lines of its tree. A node has one line, then
+its own words and its children, two spaces deeper. The steps /pN and /iN of a PATH lead to the
+children pN and iN (see 'capvet help get').
+
+Example:
+  $ capvet dump examples/contacts.bin | head -n 6
+  message 0: accepted charge 391 depth 11 pointers 125 caps 0
+  root struct 1 3
+    d0 50f708d100000000
+    p0 structs 7 1 6
+      i0 struct 1 6
+        d0 0000000000000000";
+
+/// The help of `get`, after the list of its options.
+pub(crate) const GET_NOTES: &str = "\
+PATH is '/' for the root, or a list of steps. The step '/pN' leads to pointer N of a struct, and
+'/iN' to element N of a list of pointers or structs, both counted from 0. The node is printed
+without the nodes below it. A message that has no node at PATH is accepted all the same: 'get'
+prints 'none', and the exit status stays as it is.
+
+Example:
+  $ capvet get /p0/i1 examples/contacts.bin
+  message 0: found
+  node struct 1 6
+    d0 0a6e000001000000";
+
+/// The help of `check`, after the list of its options.
+pub(crate) const CHECK_NOTES: &str = "\
+A message is canonical if it has one segment, with exactly the words that 'canon' writes after the
+table of its copy. For a refused message it prints the line of 'vet'.
+
+Example:
+  $ capvet canon examples/contacts.bin | capvet check
+  message 0: canonical";
+
+/// The help of `canon`, after the list of its options.
+pub(crate) const CANON_NOTES: &str = "\
+A copy is a message of one segment; its table is the first 8 bytes. Two messages have equal copies
+exactly if they have the same content, apart from zeros and null pointers at the end of structs. The
+command ends at the first message that is refused or has a capability.
+
+Example:
+  $ capvet canon examples/contacts.bin | tail -c +9 | sha256sum
+  da5b2d724a838dca43e56e40db89de68bba3d3772cd838de0fa7e9029481403e  -";
+
+/// The help of `pack`, after the list of its options.
+pub(crate) const PACK_NOTES: &str = "\
+Example:
+  $ capvet pack examples/contacts.bin | capvet vet --packed
+  message 0: accepted charge 391 depth 11 pointers 125 caps 0";
+
+/// The help of `unpack`, after the list of its options.
+pub(crate) const UNPACK_NOTES: &str = "\
+Example:
+  $ capvet unpack examples/contacts.packed | capvet vet
+  message 0: accepted charge 391 depth 11 pointers 125 caps 0";

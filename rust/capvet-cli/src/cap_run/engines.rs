@@ -1,0 +1,19 @@
+// crates/cap_run/src/engines.rt without its contracts, by tools/erase: that text is proved, this one is only tested.
+//! The engines, one for each command. Most read the messages of a stream and write a text or a copy
+//! for each. The others copy the words of a source.
+
+pub mod canon;
+pub mod check;
+pub mod dump;
+pub mod exclusive;
+pub mod explain;
+pub(crate) mod explaining;
+pub mod filter;
+pub mod get;
+pub(crate) mod passing;
+pub mod segments;
+pub(crate) mod sifting;
+pub(crate) mod stream;
+pub mod transcode;
+pub mod vet;
+pub(crate) mod whole;

@@ -1,0 +1,151 @@
+// crates/cap_run/src/engines/filter.rt without its contracts, by tools/erase: that text is proved, this one is only tested.
+//! The engine that lets the accepted messages of a stream through.
+
+use crate::cap_run::engines::sifting::{Passage, Sieve};
+use crate::cap_run::engines::stream::{count, end_stream, Counted};
+use crate::cap_run::settings::{FilterForm, Outcome, Settings};
+use crate::cap_run::waiting::{waits_for_message, Peek, AHEAD};
+use crate::cap_text::{Cause, RunFault};
+use capvet_core::cap_frame::{read_into, ByteMessage};
+use capvet_core::cap_vet::Demands;
+use capvet_core::cap_words::ByteOut;
+use capvet_core::rattle::alloc::Global;
+
+/// The message that was read last, and what else is kept from one message to the next.
+struct FilterBuffers {
+    message: ByteMessage,
+    /// A place for words that are looked at ahead.
+    ahead: [u8; AHEAD],
+    passage: Passage,
+}
+
+/// Reads the next message and sifts it. `None` if the stream ends before it. The frame of an
+/// accepted message is flushed if the input may have to be waited for before the next one is whole.
+fn sift_next<S: Peek, O: ByteOut, E: ByteOut>(
+    sieve: &Sieve,
+    buffers: &mut FilterBuffers,
+    source: &mut S,
+    out: &mut O,
+    log: &mut E,
+    settings: &Settings,
+    number: u32,
+) -> Result<Option<Counted>, Cause> {
+    match read_into(sieve.alloc, source, settings.size, &mut buffers.message) {
+        Ok(true) => {
+            let wait = !waits_for_message(source, settings, &mut buffers.ahead);
+            let message = buffers.message.view();
+            match sieve.sift(&mut buffers.passage, out, log, wait, number, &message) {
+                Ok(counted) => Ok(Some(counted)),
+                Err(cause) => Err(cause),
+            }
+        }
+        Ok(false) => Ok(None),
+        Err(fault) => Err(Cause::Frame(fault)),
+    }
+}
+
+/// Whether the run ends after a message of which this is counted.
+fn ends_after(counted: Counted, stop: bool) -> bool {
+    match counted {
+        Counted::Refused => stop,
+        Counted::Accepted | Counted::NotCanonical => false,
+    }
+}
+
+/// Sifts the messages of a stream to its end, or to the first refused one.
+fn sift_each<S: Peek, O: ByteOut, E: ByteOut>(
+    sieve: &Sieve,
+    source: &mut S,
+    out: &mut O,
+    log: &mut E,
+    settings: &Settings,
+) -> Result<Outcome, RunFault> {
+    let mut outcome = Outcome {
+        messages: 0,
+        refused: 0,
+        noncanonical: 0,
+    };
+    let mut buffers = FilterBuffers {
+        message: ByteMessage::blank(sieve.alloc),
+        ahead: [0; AHEAD],
+        passage: Passage::new(),
+    };
+    for number in 0..settings.messages {
+        match sift_next(sieve, &mut buffers, source, out, log, settings, number) {
+            Ok(Some(counted)) => {
+                outcome = count(outcome, counted);
+                if ends_after(counted, sieve.form.stop) {
+                    return Ok(outcome);
+                }
+            }
+            Ok(None) => return Ok(outcome),
+            Err(cause) => {
+                return Err(RunFault {
+                    message: number,
+                    cause,
+                })
+            }
+        }
+    }
+    match end_stream(source, settings.size) {
+        Ok(()) => Ok(outcome),
+        Err(cause) => Err(RunFault {
+            message: settings.messages,
+            cause,
+        }),
+    }
+}
+
+/// Reads the messages of a stream to its end, and vets each under demands (profile). Of an accepted
+/// message the frame is written to `out`: its table with zero padding, and its segments as they
+/// came (encoding: Serialization Over a Stream). Of a refused one nothing goes to `out`, and its
+/// line is written to `log`.
+///
+/// The verdict and the line are those of [`run_vet_with`](crate::run_vet_with), or with
+/// `form.exclusive` those of [`run_vet_exclusive_with`](crate::run_vet_exclusive_with). With
+/// `form.pack` the frame is packed, the table and each segment by itself (encoding: Packing).
+///
+/// A refused message is counted. It ends the run only with `form.stop`: the source is then just
+/// after it, and nothing more was read. No byte of a message is written before the whole message is
+/// vetted. The frame of a message, or its line, is written before the next message is read. If `log`
+/// fails, it isn't called again, and the run goes on.
+///
+/// Frames are flushed as `settings.live` says. The frames that wait are flushed before a line is
+/// written. They still wait if the run ends with [`Cause::TooManyMessages`], or as an allocation
+/// fails.
+///
+/// Allocates to hold a message only if it is larger than all before it: eight bytes for each word.
+/// With `form.exclusive` it allocates the marks for each message: one bit for each word, and at most
+/// 64 bits more.
+///
+/// # Errors
+///
+/// The error names the message at which the run ended, counted from 0. The frames of all accepted
+/// messages before it were written, and no message after it was read. With `form.stop` all messages
+/// before it were accepted.
+///
+/// - [`Cause::TooManyMessages`]: the stream has more than `settings.messages` messages.
+/// - [`Cause::Frame`]: the message can't be read within `settings.size`, see
+///   [`FrameFault`](cap_frame::FrameFault).
+/// - [`Cause::Output`]: `out` failed, and nothing was read after that. The message is accepted, and
+///   `out` took a prefix of its frame, or all of it. Or it is refused and the message before it was
+///   accepted, and a flush of the frames before it failed. Its line wasn't written.
+/// - [`Cause::Memory`]: with `form.exclusive` alone. The message meets the demands, and the
+///   allocation of the marks failed. Nothing was written for it.
+pub fn run_filter<S: Peek, O: ByteOut, E: ByteOut>(
+    alloc: Global,
+    source: &mut S,
+    out: &mut O,
+    log: &mut E,
+    settings: &Settings,
+    demands: Demands,
+    form: FilterForm,
+) -> Result<Outcome, RunFault> {
+    let sieve = Sieve {
+        alloc,
+        limits: settings.limits,
+        demands,
+        form,
+    };
+    sift_each(&sieve, source, out, log, settings)
+}

@@ -1,0 +1,80 @@
+// crates/cap_run/src/engines/get.rt without its contracts, by tools/erase: that text is proved, this one is only tested.
+//! The engine that writes the node of each message at one path.
+
+use crate::cap_run::engines::stream::Counted;
+use crate::cap_run::engines::whole::{after_text, vet_all, Printer};
+use crate::cap_run::settings::{Outcome, Settings};
+use crate::cap_run::waiting::Peek;
+use crate::cap_text::{write_node, Cause, Page, RunFault};
+use capvet_core::cap_frame::Segments;
+use capvet_core::cap_spec::Step;
+use capvet_core::cap_vet::{Demands, Vetted};
+use capvet_core::cap_words::ByteOut;
+use capvet_core::rattle::alloc::Global;
+
+/// Writes the node at this path of a message's tree.
+#[derive(Clone, Copy)]
+struct GetPrinter<'p> {
+    path: &'p [Step],
+}
+
+impl<'p> Printer for GetPrinter<'p> {
+    fn print<M: Segments, O: ByteOut>(
+        &self,
+        page: &mut Page,
+        out: &mut O,
+        number: u32,
+        vetted: &Vetted<'_, M>,
+    ) -> Result<Counted, Cause> {
+        let written = write_node(page, out, number, vetted.get(self.path));
+        after_text(written, Counted::Accepted)
+    }
+}
+
+/// Does what [`run_get_with`] does, without demands.
+///
+/// # Errors
+///
+/// Those of [`run_get_with`].
+pub fn run_get<S: Peek, O: ByteOut>(
+    alloc: Global,
+    source: &mut S,
+    out: &mut O,
+    settings: &Settings,
+    path: &[Step],
+) -> Result<Outcome, RunFault> {
+    run_get_with(alloc, source, out, settings, Demands::default(), path)
+}
+
+/// Reads the messages of a stream to its end, and writes for each the node of its tree at the path,
+/// without the node's children. If the tree has no node there, it writes `none`. For a message that
+/// is refused or doesn't meet the demands it writes the line of
+/// [`run_vet_with`](crate::run_vet_with).
+///
+/// A message without such a node isn't refused. A refused message is counted, and doesn't end the
+/// run. The text of a message is written before the next message is read, and flushed as
+/// `settings.live` says.
+///
+/// Allocates only to hold a message that is larger than all before it: eight bytes for each word.
+///
+/// # Errors
+///
+/// The error names the message at which the run ended, counted from 0. The texts of all messages
+/// before it were written, and no message after it was read.
+///
+/// - [`Cause::TooManyMessages`](crate::Cause::TooManyMessages): the stream has more than
+///   `settings.messages` messages.
+/// - [`Cause::Frame`](crate::Cause::Frame): the message can't be read within `settings.size`, see
+///   [`FrameFault`](cap_frame::FrameFault).
+/// - [`Cause::Output`](crate::Cause::Output): the output failed as the text was written or flushed.
+///   It took a prefix of the text, or all of it.
+pub fn run_get_with<S: Peek, O: ByteOut>(
+    alloc: Global,
+    source: &mut S,
+    out: &mut O,
+    settings: &Settings,
+    demands: Demands,
+    path: &[Step],
+) -> Result<Outcome, RunFault> {
+    vet_all(alloc, source, out, settings, demands, GetPrinter { path })
+}

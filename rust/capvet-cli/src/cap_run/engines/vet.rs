@@ -1,0 +1,78 @@
+// crates/cap_run/src/engines/vet.rt without its contracts, by tools/erase: that text is proved, this one is only tested.
+//! The engine that writes for each message whether it is accepted.
+
+use crate::cap_run::engines::stream::Counted;
+use crate::cap_run::engines::whole::{after_text, vet_all, Printer};
+use crate::cap_run::settings::{Outcome, Settings};
+use crate::cap_run::waiting::Peek;
+use crate::cap_text::{write_accepted, Cause, Page, RunFault};
+use capvet_core::cap_frame::Segments;
+use capvet_core::cap_vet::{Demands, Vetted};
+use capvet_core::cap_words::ByteOut;
+use capvet_core::rattle::alloc::Global;
+
+/// Writes the numbers of a message's tree.
+#[derive(Clone, Copy)]
+pub(crate) struct VetPrinter;
+
+impl Printer for VetPrinter {
+    // A call would load the report from words that were just stored at other boundaries, and wait.
+    #[inline(always)]
+    fn print<M: Segments, O: ByteOut>(
+        &self,
+        page: &mut Page,
+        out: &mut O,
+        number: u32,
+        vetted: &Vetted<'_, M>,
+    ) -> Result<Counted, Cause> {
+        let written = write_accepted(page, out, number, &vetted.report());
+        after_text(written, Counted::Accepted)
+    }
+}
+
+/// Does what [`run_vet_with`] does, without demands: a message is accepted if its root denotes a
+/// finite tree within `settings.limits`.
+///
+/// # Errors
+///
+/// Those of [`run_vet_with`].
+pub fn run_vet<S: Peek, O: ByteOut>(
+    alloc: Global,
+    source: &mut S,
+    out: &mut O,
+    settings: &Settings,
+) -> Result<Outcome, RunFault> {
+    run_vet_with(alloc, source, out, settings, Demands::default())
+}
+
+/// Reads the messages of a stream to its end, and vets each under demands (encoding: Security
+/// Considerations; the demands are the profile's). A message is accepted if its root denotes a
+/// finite tree within `settings.limits`, and it meets `demands`. The line of a message that is
+/// accepted has the numbers of its tree. The line of one that isn't has the first reason and the
+/// place, see [`vet_with`](cap_vet::vet_with).
+///
+/// A refused message is counted, and doesn't end the run. The line of a message is written before
+/// the next message is read, and flushed as `settings.live` says.
+///
+/// Allocates only to hold a message that is larger than all before it: eight bytes for each word.
+///
+/// # Errors
+///
+/// The error names the message at which the run ended, counted from 0. The lines of all messages
+/// before it were written, and no message after it was read.
+///
+/// - [`Cause::TooManyMessages`](crate::Cause::TooManyMessages): the stream has more than
+///   `settings.messages` messages.
+/// - [`Cause::Frame`](crate::Cause::Frame): the message can't be read within `settings.size`, see
+///   [`FrameFault`](cap_frame::FrameFault).
+/// - [`Cause::Output`](crate::Cause::Output): the output failed as the line was written or flushed.
+///   It took a prefix of the line, or all of it.
+pub fn run_vet_with<S: Peek, O: ByteOut>(
+    alloc: Global,
+    source: &mut S,
+    out: &mut O,
+    settings: &Settings,
+    demands: Demands,
+) -> Result<Outcome, RunFault> {
+    vet_all(alloc, source, out, settings, demands, VetPrinter)
+}

@@ -1,0 +1,116 @@
+// crates/cap_run/src/waiting.rt without its contracts, by tools/erase: that text is proved, this one is only tested.
+//! When an output is flushed, for all engines, and the sources that show what is buffered of their
+//! input. What can be said of the bytes that have come is said before the program waits for more: an
+//! engine flushes what it wrote, unless its source shows what is read next.
+
+use crate::cap_run::settings::Settings;
+use capvet_core::cap_frame::{front_of, FrontFault, SizeLimit};
+use capvet_core::cap_pack::Unpacker;
+use capvet_core::cap_words::{
+    ByteIn, ByteOut, OutFault, PlainWords, SinkFault, WordSink, WordSource,
+};
+
+/// A source of words that shows what is buffered of its input. So a caller knows whether the source
+/// may wait for more bytes.
+pub trait Peek: WordSource {
+    /// Whether buffered bytes hold the whole next message, within the limit. The source then gives
+    /// this message without a call of the device. `buffer` is a place for words that are looked at.
+    /// `false` doesn't say that the message isn't buffered.
+    fn shows_message(&self, size: SizeLimit, buffer: &mut [u8]) -> bool;
+
+    /// Whether buffered bytes hold the next word. The source then gives it without a call of the
+    /// device. `false` doesn't say that it isn't buffered.
+    fn shows_word(&self) -> bool;
+}
+
+/// Whether these bytes begin with a whole message within the limit.
+fn is_whole(bytes: &[u8], size: SizeLimit) -> bool {
+    match front_of(bytes, size) {
+        Ok(Some(_)) => true,
+        Ok(None) => false,
+        Err(_) => false,
+    }
+}
+
+impl<I: ByteIn> Peek for PlainWords<I> {
+    fn shows_message(&self, size: SizeLimit, _capacity: &mut [u8]) -> bool {
+        is_whole(self.held(), size)
+    }
+
+    fn shows_word(&self) -> bool {
+        self.held().len() >= 8
+    }
+}
+
+// How many bytes there have to be to learn more of a message that begins with these bytes. `None` if
+// they hold it whole, or no more bytes make it a message within the limit.
+fn bytes_needed(bytes: &[u8], size: SizeLimit) -> Option<u64> {
+    match front_of(bytes, size) {
+        Err(FrontFault::Truncated { needed }) => Some(needed),
+        _ => None,
+    }
+}
+
+impl<I: ByteIn> Peek for Unpacker<I> {
+    // Its first word is looked at, then its table, and then all of it. A message that `buffer` can't
+    // hold isn't shown.
+    fn shows_message(&self, size: SizeLimit, buffer: &mut [u8]) -> bool {
+        let mut needed = 8;
+        for _ in 0..3 {
+            if needed > buffer.len() {
+                return false;
+            }
+            let shown = self.peek(&mut buffer[..needed]);
+            if is_whole(&buffer[..shown], size) {
+                return true;
+            }
+            match bytes_needed(&buffer[..shown], size) {
+                Some(more) if shown == needed && more <= buffer.len() as u64 => {
+                    needed = more as usize
+                }
+                _ => return false,
+            }
+        }
+        false
+    }
+
+    fn shows_word(&self) -> bool {
+        self.peek(&mut [0; 8]) == 8
+    }
+}
+
+/// How many bytes of a packed message are looked at ahead. What is written of a larger message, or
+/// before it, is flushed by itself.
+pub(crate) const AHEAD: usize = 4096;
+
+/// Whether the input may have to be waited for before the next message is whole. `ahead` is a place
+/// for words that are looked at.
+pub(crate) fn waits_for_message<S: Peek>(
+    source: &S,
+    settings: &Settings,
+    ahead: &mut [u8],
+) -> bool {
+    settings.live && !source.shows_message(settings.size, ahead)
+}
+
+/// Whether the input may have to be waited for before there is a next word.
+pub(crate) fn waits_for_word<S: Peek>(source: &S, live: bool) -> bool {
+    live && !source.shows_word()
+}
+
+/// Flushes what was written, if the input may have to be waited for. After an error the output has
+/// taken all that was written.
+pub(crate) fn flush_output<O: ByteOut>(out: &mut O, waits: bool) -> Result<(), OutFault> {
+    if waits {
+        return out.flush();
+    }
+    Ok(())
+}
+
+/// Flushes what was put, if the input may have to be waited for.
+pub(crate) fn flush_sink<K: WordSink>(sink: &mut K, waits: bool) -> Result<(), SinkFault> {
+    if waits {
+        return sink.flush();
+    }
+    Ok(())
+}

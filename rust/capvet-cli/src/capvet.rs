@@ -1,0 +1,209 @@
+// crates/capvet/src/main.rt without its contracts, by tools/erase: that text is proved, this one is only tested.
+//! The program `capvet`: opens what the command line names, runs its job and ends with its status.
+
+use crate::rattle::{eprintln, HostRuntime};
+use capvet_core::rattle::Vec;
+
+use crate::cap_cmd::{read_job, run_job, Job, JobFault};
+use crate::rattle::env::Env;
+use crate::rattle::fs::{File, Metadata, OpenFile};
+use crate::rattle::io::{BufWriter, ErrorKind, Read, Stdin, Write};
+use crate::rattle::process::ExitCode;
+use crate::rattle::{env, fs, io};
+use capvet_core::cap_words::{BufferedIn, ByteIn, FromWrite};
+use capvet_core::rattle::alloc::AllocError;
+
+// How many bytes are written at a time.
+const BUFFER: usize = 65536;
+
+// How many bytes of a fault's lines are held, which is more than any has.
+const LINE: usize = 1024;
+
+// The most bytes of an argument: Linux gives a program no longer one.
+const ARGUMENT: usize = 131072;
+
+// The name of standard input, for its metadata.
+const STANDARD_INPUT: &str = "/dev/stdin";
+
+// The exit statuses of what goes wrong outside a job.
+const USAGE: u8 = 2;
+
+const FAILED: u8 = 3;
+
+pub(crate) fn main(rt: HostRuntime) -> ExitCode {
+    ExitCode::from(run(&rt))
+}
+
+// The whole program, to its exit status.
+fn run(rt: &HostRuntime) -> u8 {
+    let words = match env::args(rt) {
+        Ok(words) => words,
+        Err(error) if error.kind() == ErrorKind::OutOfMemory => return out_of_memory(rt),
+        Err(_) => return bad_argument(rt),
+    };
+    let words = match words.collect(rt.alloc()) {
+        Ok(words) => words,
+        Err(_) => return out_of_memory(rt),
+    };
+    match read_job(rt.alloc(), words) {
+        Ok(job) => open_and_run(rt, job),
+        Err(JobFault::Help { text }) => help(rt, text.as_str()),
+        Err(JobFault::Usage { text }) => fail(rt, text.as_str(), USAGE),
+        Err(JobFault::Path { at, text }) => bad_path(rt, at, text.as_str()),
+        Err(JobFault::Memory) => out_of_memory(rt),
+    }
+}
+
+// What is read: standard input or a file.
+enum Device {
+    Standard(Stdin),
+    File(File),
+}
+
+// An input that keeps the error of the read that failed last. One type for both devices, so that
+// the engines are compiled once.
+struct Input {
+    device: Device,
+    error: Option<io::Error>,
+}
+
+impl Read for Input {
+    fn read(&mut self, buf: &mut [u8]) -> io::Result<usize> {
+        let answer = match &mut self.device {
+            Device::Standard(input) => input.read(buf),
+            Device::File(file) => file.read(buf),
+        };
+        match answer {
+            Ok(count) => Ok(count),
+            Err(error) => {
+                let kind = error.kind();
+                self.error = Some(error);
+                Err(io::Error::from(kind))
+            }
+        }
+    }
+}
+
+// Opens the job's file, or takes standard input, and runs the job on it.
+fn open_and_run(rt: &HostRuntime, job: Job) -> u8 {
+    let mut job = job;
+    match &job.file {
+        None => {
+            job.settings.live = may_wait(&fs::metadata(rt, STANDARD_INPUT));
+            run_on(rt, &job, Device::Standard(rt.stdin()))
+        }
+        Some(name) => match File::open(rt, name.as_str()) {
+            Ok(file) => {
+                job.settings.live = may_wait(&file.metadata());
+                run_on(rt, &job, Device::File(file))
+            }
+            Err(error) => cannot_open(rt, name.as_str(), &error),
+        },
+    }
+}
+
+// Whether an input may have to be waited for: all but a regular file.
+fn may_wait(metadata: &io::Result<Metadata>) -> bool {
+    match metadata {
+        Ok(metadata) => !metadata.is_file(),
+        Err(_) => true,
+    }
+}
+
+// Runs the job on this input, writes to standard output, and flushes that. It holds the line of a
+// fault until after the flush, so that the line follows the texts if both go to one place.
+fn run_on(rt: &HostRuntime, job: &Job, device: Device) -> u8 {
+    let mut input = Input {
+        device,
+        error: None,
+    };
+    let status = run_over(rt, job, &mut input);
+    if let Some(error) = &input.error {
+        explain(rt, error);
+    }
+    status
+}
+
+// The same, without what the system says of a read that failed.
+fn run_over(rt: &HostRuntime, job: &Job, input: &mut Input) -> u8 {
+    let input = if let Ok(input) = BufferedIn::new(rt.alloc(), input) {
+        input
+    } else {
+        return out_of_memory(rt);
+    };
+    let out = match BufWriter::with_capacity(rt.alloc(), BUFFER, rt.stdout()) {
+        Ok(out) => FromWrite::new(out),
+        Err(_) => return out_of_memory(rt),
+    };
+    let mut err = match BufWriter::with_capacity(rt.alloc(), LINE, rt.stderr()) {
+        Ok(err) => FromWrite::new(err),
+        Err(_) => return out_of_memory(rt),
+    };
+    let (status, out) = run_job(rt.alloc(), job, input, out, &mut err);
+    // An output that failed has its line already.
+    let is_reported = out.has_failed() || out.into_inner().flush().is_ok();
+    let _ = err.into_inner().flush();
+    if is_reported {
+        status
+    } else {
+        fail(rt, "capvet: output failed\n", FAILED)
+    }
+}
+
+fn help(rt: &HostRuntime, text: &str) -> u8 {
+    match rt.print(text) {
+        Ok(()) => 0,
+        Err(_) => fail(rt, "capvet: output failed\n", FAILED),
+    }
+}
+
+fn bad_path(rt: &HostRuntime, at: usize, text: &str) -> u8 {
+    let _ = eprintln!(rt; "capvet: bad path at {at}");
+    let _ = eprintln!(rt; "capvet: the path is '{text}'; the order is 'capvet get PATH FILE'");
+    USAGE
+}
+
+fn cannot_open(rt: &HostRuntime, name: &str, error: &io::Error) -> u8 {
+    let _ = eprintln!(rt; "capvet: cannot open {name}");
+    explain(rt, error);
+    FAILED
+}
+
+// Writes what the system says of a file or of an input.
+fn explain(rt: &HostRuntime, error: &io::Error) {
+    let _ = eprintln!(rt; "capvet: {error}");
+}
+
+// Names the first argument that is not UTF-8 by its number, from 1.
+fn bad_argument(rt: &HostRuntime) -> u8 {
+    let number = if let Ok(number) = first_bad_argument(rt) {
+        number
+    } else {
+        return out_of_memory(rt);
+    };
+    let _ = eprintln!(rt; "capvet: argument {number} is not UTF-8");
+    USAGE
+}
+
+// The number of the first argument that is not UTF-8. The program's name is number 0.
+fn first_bad_argument(rt: &HostRuntime) -> Result<usize, AllocError> {
+    let mut text = Vec::with_capacity(rt.alloc(), ARGUMENT)?;
+    text.resize(ARGUMENT, 0)?;
+    for number in 0..usize::MAX {
+        match rt.arg(number, text.as_mut_slice()) {
+            Ok(length) if core::str::from_utf8(&text[..length]).is_ok() => {}
+            _ => return Ok(number),
+        }
+    }
+    Ok(usize::MAX)
+}
+
+fn out_of_memory(rt: &HostRuntime) -> u8 {
+    fail(rt, "capvet: out of memory\n", FAILED)
+}
+
+// Writes what there is to say, and answers the status. A text that can't be written changes no status.
+fn fail(rt: &HostRuntime, text: &str, status: u8) -> u8 {
+    let _ = rt.eprint(text);
+    status
+}

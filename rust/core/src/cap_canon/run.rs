@@ -1,0 +1,46 @@
+// crates/cap_canon/src/run.rt without its contracts, by tools/erase: that text is proved, this one is only tested.
+//! A run of pointer words that a walk still has to look at.
+
+/// A pointer word of the message, and the word of the copy that it becomes.
+#[derive(Clone, Copy)]
+pub(crate) struct PointerPlace {
+    pub(crate) segment: u32,
+    pub(crate) word: u32,
+    pub(crate) slot: u32,
+}
+
+/// `left` pointer words from `at` on, which become those from `slot` on of the copy, and then
+/// `pointers` of each of `more` further elements. From the last one of an element to the first one
+/// of the next there are `skip` words between them, and `gap` words in the copy.
+#[derive(Clone, Copy, Default)]
+pub(crate) struct CopyRun {
+    pub(crate) segment: u32,
+    pub(crate) at: u32,
+    pub(crate) slot: u32,
+    pub(crate) left: u32,
+    pub(crate) more: u32,
+    pub(crate) skip: u32,
+    pub(crate) gap: u32,
+    pub(crate) pointers: u32,
+}
+
+impl CopyRun {
+    /// Goes on after the first pointer word. `false` if nothing is left.
+    #[inline(always)]
+    pub(crate) fn advance(&mut self) -> bool {
+        if self.left > 1 {
+            self.at += 1;
+            self.slot += 1;
+            self.left -= 1;
+            return true;
+        }
+        if self.more > 0 {
+            self.at = self.at + 1 + self.skip;
+            self.slot = self.slot + 1 + self.gap;
+            self.left = self.pointers;
+            self.more -= 1;
+            return true;
+        }
+        false
+    }
+}

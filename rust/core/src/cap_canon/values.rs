@@ -1,0 +1,24 @@
+// crates/cap_canon/src/values.rt without its contracts, by tools/erase: that text is proved, this one is only tested.
+//! Whether a list of values is as a copy has it.
+
+use crate::cap_canon::objects::read_range;
+use crate::cap_canon::words::{last_word, rest_bits};
+use crate::cap_frame::Segments;
+
+/// Whether the words of a list of values have no bits set after the last value. Each is read, since a
+/// word is known to be below 2^64 only once it is read.
+#[inline(always)]
+pub(crate) fn ends_with_values<M: Segments>(
+    message: &M,
+    start: u32,
+    code: u8,
+    count: u32,
+    words: u32,
+) -> bool {
+    read_range(message, 0, start, words);
+    if rest_bits(code, count) == 0 {
+        return true;
+    }
+    let last = message.word(0, start + (words - 1));
+    last == last_word(code, count, last)
+}

@@ -1,0 +1,23 @@
+// crates/cap_explain/src/lib.rt without its contracts, by tools/erase: that text is proved, this one is only tested.
+//! The explanation of a refusal: the words that a pointer leads through, with their fields, where it
+//! leads, and the reason as a sentence.
+
+mod charge;
+mod earlier;
+mod explaining;
+mod explanation;
+mod forms;
+mod landing;
+mod lines;
+mod numbers;
+mod path;
+mod sentences;
+mod target;
+mod words;
+
+pub use charge::refusal_charge;
+pub use earlier::explain_earlier;
+pub use explaining::{explain, explain_overlap};
+pub use explanation::Explanation;
+pub use numbers::{MessageStart, Numbers};
+pub use words::frame_words;

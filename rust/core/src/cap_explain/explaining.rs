@@ -1,0 +1,143 @@
+// crates/cap_explain/src/explaining.rt without its contracts, by tools/erase: that text is proved, this one is only tested.
+//! The explanation of a refusal.
+
+use crate::cap_explain::explanation::{Explanation, CAPACITY};
+use crate::cap_explain::landing::{landing_of, Landing};
+use crate::cap_explain::lines::{
+    push_byte_line, push_excess_line, push_landing_lines, push_pointer_line, push_reason_line,
+    push_segment_line, push_target_lines, LINE, PLAIN,
+};
+use crate::cap_explain::numbers::{MessageStart, Numbers};
+use crate::cap_explain::path::push_path_lines;
+use crate::cap_explain::sentences::{names_pointer, Fault};
+use crate::cap_explain::target::{segment_after, target_of, Target};
+use crate::cap_explain::words::word_of;
+use crate::cap_frame::Segments;
+use crate::cap_spec::{Step, StrictRefusal};
+
+/// The space for the lines on a pointer.
+const POINTER: usize = 5 * LINE + 2 * PLAIN;
+
+/// A pointer word, and where it leads.
+#[derive(Clone, Copy)]
+struct Pointer {
+    segment: u32,
+    word: u32,
+    value: u64,
+    landing: Landing,
+}
+
+/// Appends the lines on a pointer.
+fn push_pointer_lines<M: Segments>(
+    text: &mut Explanation,
+    message: &M,
+    start: Option<MessageStart>,
+    pointer: Pointer,
+    target: &Option<Target>,
+) {
+    push_byte_line(text, message, start, pointer.segment, pointer.word);
+    push_pointer_line(text, pointer.value);
+    push_landing_lines(text, pointer.value, pointer.landing);
+    push_target_lines(text, message, target);
+    let last = segment_after(pointer.segment, pointer.value, pointer.landing);
+    push_segment_line(text, message, last);
+}
+
+/// Appends the lines if the word that is named exists.
+fn push_lines<M: Segments>(
+    text: &mut Explanation,
+    message: &M,
+    fault: Fault,
+    pointer: Pointer,
+    target: &Option<Target>,
+    numbers: Numbers,
+) {
+    if names_pointer(fault) {
+        push_pointer_lines(text, message, numbers.start, pointer, target);
+    }
+    push_excess_line(text, message, fault, target, numbers);
+    push_reason_line(text, fault, pointer.landing, target);
+}
+
+/// The space for all lines on a fault but that of the path.
+const LINES: usize = POINTER + 2 * PLAIN;
+
+/// Appends the lines of a fault that names a word.
+fn push_fault<M: Segments>(
+    text: &mut Explanation,
+    message: &M,
+    fault: Fault,
+    segment: u32,
+    word: u32,
+    numbers: Numbers,
+) {
+    match word_of(message, segment, u64::from(word)) {
+        Some(value) => {
+            let landing = landing_of(message, value);
+            let target = target_of(segment, word, value, landing);
+            let pointer = Pointer {
+                segment,
+                word,
+                value,
+                landing,
+            };
+            push_lines(text, message, fault, pointer, &target, numbers);
+        }
+        None => push_reason_line(text, fault, Landing::Near, &None),
+    }
+}
+
+/// Writes the lines that explain why a message is refused (docs/output.md, explain). They give the
+/// path to the pointer, where it is, and the pointer word with its fields. Then come where it leads,
+/// what is exceeded, and the reason as a sentence. What the text held before is removed. Allocates
+/// nothing.
+///
+/// A refusal that names no word of the message has only the line of the reason, and that of a path
+/// if one is given. A path of more than 257 steps has no line: no path to a pointer of a refusal has
+/// as many.
+pub fn explain<M: Segments>(
+    text: &mut Explanation,
+    message: &M,
+    refusal: &StrictRefusal,
+    numbers: Numbers,
+    path: Option<&[Step]>,
+) {
+    let (fault, segment, word) = match refusal {
+        StrictRefusal::Refused(refusal) => (
+            Fault::Refused(refusal.reason),
+            refusal.segment,
+            refusal.word,
+        ),
+        StrictRefusal::ManySegments => (Fault::ManySegments, 0, 0),
+        StrictRefusal::Pointer {
+            what,
+            segment,
+            word,
+            ..
+        } => (Fault::NotStrict(*what), *segment, *word),
+    };
+    text.clear();
+    push_path_lines(text, path);
+    push_fault(text, message, fault, segment, word, numbers);
+}
+
+/// Writes the lines that explain that the pointer at word `word` of segment `segment` overlaps. The
+/// message begins at `start`, if it is one of a stream. See [`explain`].
+pub fn explain_overlap<M: Segments>(
+    text: &mut Explanation,
+    message: &M,
+    start: Option<MessageStart>,
+    segment: u32,
+    word: u32,
+    path: Option<&[Step]>,
+) {
+    text.clear();
+    push_path_lines(text, path);
+    let numbers = Numbers {
+        words: 0,
+        depth: 0,
+        charge: None,
+        start,
+    };
+    push_fault(text, message, Fault::Overlap, segment, word, numbers);
+}

@@ -1,0 +1,125 @@
+// crates/cap_explain/src/sentences.rt without its contracts, by tools/erase: that text is proved, this one is only tested.
+//! Each reason of a refusal, as a sentence.
+
+use crate::cap_explain::landing::Landing;
+use crate::cap_explain::target::{is_structs, Target};
+use crate::cap_spec::{Lax, Reason};
+
+/// The most bytes of a sentence.
+pub(crate) const SENTENCE: usize = 120;
+
+/// Why a message is refused.
+#[derive(Clone, Copy)]
+pub(crate) enum Fault {
+    /// It isn't accepted.
+    Refused(Reason),
+    /// It has 512 segments, and a strict message is demanded.
+    ManySegments,
+    /// A pointer has a form that common readers reject, and a strict message is demanded.
+    NotStrict(Lax),
+    /// A pointer overlaps, and an exclusive message is demanded.
+    Overlap,
+}
+
+/// The fault is one of a pointer.
+pub(crate) fn names_pointer(fault: Fault) -> bool {
+    !matches!(fault, Fault::ManySegments)
+}
+
+/// The pointer itself is reserved, or the word of its landing pad.
+fn reserved_sentence(landing: Landing) -> &'static [u8] {
+    match landing {
+        Landing::One { .. } => {
+            b"the low two bits of the landing pad are 3, but it is not a valid capability pointer; the format reserves such words"
+        }
+        _ =>
+            b"the low two bits of the pointer are 3, but it is not a valid capability pointer; the format reserves such words",
+    }
+}
+
+/// The pointer itself names the missing segment, or the first word of its landing pad.
+fn missing_sentence(landing: Landing) -> &'static [u8] {
+    match landing {
+        Landing::Two { .. } => {
+            b"the first word of the landing pad names a segment that the message does not have"
+        }
+        _ => b"the far pointer names a segment that the message does not have",
+    }
+}
+
+/// The target begins too early or ends too late.
+fn outside_sentence(target: &Option<Target>) -> &'static [u8] {
+    match target {
+        None => b"the target is not all inside its segment",
+        Some(target) => {
+            if target.start < u64::from(target.excess) {
+                b"the target begins before the start of its segment"
+            } else {
+                b"the target runs past the end of its segment"
+            }
+        }
+    }
+}
+
+/// The target itself is too deep, or for a list of structs one of these.
+fn deep_sentence(target: &Option<Target>) -> &'static [u8] {
+    match target {
+        None => b"the target is at a deeper level than the limit allows",
+        Some(target) => {
+            if is_structs(target.word) {
+                b"the list of structs, or its structs, are at a deeper level than the limit allows"
+            } else {
+                b"the target is at a deeper level than the limit allows"
+            }
+        }
+    }
+}
+
+/// Why the pointer can't be followed, or passes a limit.
+fn reason_sentence(reason: Reason, landing: Landing, target: &Option<Target>) -> &'static [u8] {
+    match reason {
+        Reason::NoRoot => b"segment 0 has no words, so the message has no root pointer",
+        Reason::Reserved => reserved_sentence(landing),
+        Reason::SegmentMissing => missing_sentence(landing),
+        Reason::PadOutside => b"the landing pad is not all inside its segment",
+        Reason::PadIsFar => b"the only word of the landing pad is a far pointer again",
+        Reason::PadNotFar => {
+            b"the first word of the landing pad is not a far pointer to a pad of one word"
+        }
+        Reason::TagKind => {
+            b"the second word of the landing pad is neither a struct pointer nor a list pointer"
+        }
+        Reason::TagOffset => b"the second word of the landing pad has an offset other than 0",
+        Reason::OutOfSegment => outside_sentence(target),
+        Reason::CompositeTag => b"the first word of the list of structs is not a struct tag",
+        Reason::CompositeOverrun => {
+            b"the elements that the tag gives need more words than the list has"
+        }
+        Reason::DepthLimit => deep_sentence(target),
+        Reason::WordLimit => b"the charge up to this pointer and its target is more than the limit",
+    }
+}
+
+/// Which form common readers reject.
+fn lax_sentence(what: Lax) -> &'static [u8] {
+    match what {
+        Lax::NullPad => b"the only word of the landing pad is null, which common readers reject",
+        Lax::EmptySegment => {
+            b"the target is in a segment without words, which common readers reject"
+        }
+        Lax::CapabilityPad => {
+            b"the only word of the landing pad is a capability, which common readers reject"
+        }
+    }
+}
+
+/// The reason, by the landing pad and the target of the pointer.
+pub(crate) fn sentence(fault: Fault, landing: Landing, target: &Option<Target>) -> &'static [u8] {
+    match fault {
+        Fault::Refused(reason) => reason_sentence(reason, landing, target),
+        Fault::ManySegments => b"the message has 512 segments, and common readers take at most 511",
+        Fault::NotStrict(what) => lax_sentence(what),
+        Fault::Overlap =>
+            b"the pointer uses a word twice, or one that is used before it in preorder; --exclusive forbids both",
+    }
+}

@@ -1,0 +1,33 @@
+// crates/cap_explain/src/words.rt without its contracts, by tools/erase: that text is proved, this one is only tested.
+//! The words of a message by their places, and their bytes.
+
+use crate::cap_frame::Segments;
+
+/// Word `w` of segment `s`, if there is one.
+pub(crate) fn word_of<M: Segments>(message: &M, s: u32, w: u64) -> Option<u64> {
+    if s >= message.count() || w >= u64::from(message.len(s)) {
+        return None;
+    }
+    Some(message.word(s, w as u32))
+}
+
+/// The words of the first `segments` segments of a message together.
+fn words_before<M: Segments>(message: &M, segments: u32) -> u64 {
+    let mut words = 0u64;
+    for s in 0..segments {
+        words += u64::from(message.len(s));
+    }
+    words
+}
+
+/// The first byte of word `w` of segment `s` in the message, its segment table included.
+pub(crate) fn byte_of<M: Segments>(message: &M, s: u32, w: u32) -> u64 {
+    let table = u64::from(message.count() / 2 + 1);
+    8 * (table + words_before(message, s) + u64::from(w))
+}
+
+/// How many words the frame of a message has: its segment table, and the words of its segments
+/// (encoding: Serialization Over a Stream).
+pub fn frame_words<M: Segments>(message: &M) -> u64 {
+    u64::from(message.count() / 2 + 1) + words_before(message, message.count())
+}

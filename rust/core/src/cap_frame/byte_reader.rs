@@ -1,0 +1,261 @@
+// crates/cap_frame/src/byte_reader.rt without its contracts, by tools/erase: that text is proved, this one is only tested.
+//! Reading messages into one buffer.
+
+#[cfg(feature = "std")]
+use crate::rattle::Vec;
+
+use crate::cap_frame::byte_message::{blank, ByteMessage};
+use crate::cap_frame::fault::{frame_fault, FrameFault, SizeLimit};
+use crate::cap_frame::segment_tables::fill_starts;
+use crate::cap_frame::table::{empty, next_table, sums_after, total, Sizes, TableSums};
+use crate::cap_words::{SourceFault, WordSource};
+use crate::rattle::alloc::{AllocError, Global};
+
+// Reads a message: its table, and the words of its segments one after the other.
+#[inline(always)]
+fn read_parts<S: WordSource>(
+    alloc: Global,
+    source: &mut S,
+    limit: SizeLimit,
+    sizes: &mut Sizes,
+    bytes: &mut Vec<u8>,
+) -> Result<bool, FrameFault> {
+    empty(sizes);
+    match next_table(source, limit, sizes) {
+        Ok(true) => {}
+        Ok(false) => return Ok(false),
+        Err(fault) => return Err(fault),
+    }
+    let words = total(sizes) as usize;
+    let () = if let Ok(()) = make_space(alloc, bytes, 8 * words) {
+        ()
+    } else {
+        return Err(FrameFault::Memory);
+    };
+    match read_bytes(source, words, bytes) {
+        Ok(()) => Ok(true),
+        Err(fault) => Err(frame_fault(fault)),
+    }
+}
+
+/// Reads the next message of a stream into `message`, in place of its contents. `false` if the
+/// stream ends before the message's first word (encoding: Serialization Over a Stream).
+///
+/// Allocates only if the buffer's capacity is less than the message's words, eight bytes each. The
+/// buffer is freed first, and stays empty if the allocation fails. So a stream that is read into
+/// one message allocates only for a message that is larger than all before it.
+///
+/// # Errors
+///
+/// The errors, the words that are taken, and the state of the source after an error are those of
+/// [`read_byte_message`]. After an error, and after `false`, the message has one segment without
+/// words, as a blank one. After `TooManySegments`, after `TooLarge` and after `false` its buffer has
+/// the capacity that it had. After `Memory` it has none.
+pub fn read_into<S: WordSource>(
+    alloc: Global,
+    source: &mut S,
+    limit: SizeLimit,
+    message: &mut ByteMessage,
+) -> Result<bool, FrameFault> {
+    let ByteMessage {
+        bytes,
+        sizes,
+        starts,
+    } = message;
+    match read_parts(alloc, source, limit, sizes, bytes) {
+        Ok(true) => {
+            fill_starts(sizes, starts);
+            Ok(true)
+        }
+        Ok(false) => {
+            blank(sizes, starts);
+            Ok(false)
+        }
+        Err(fault) => {
+            blank(sizes, starts);
+            Err(fault)
+        }
+    }
+}
+
+/// Does what [`read_into`] does, and keeps what the table says in `table` if the message can't be
+/// read.
+///
+/// # Errors
+///
+/// Those of [`read_into`]. After `TooLarge`, and after `Truncated` if the whole table is there,
+/// `table` has the segments and the words that the table says. After another error it is `None`.
+/// Without an error it stays as it was.
+// It has a body of its own: by a call of it `read_into` takes 25 instructions more for a message.
+pub fn read_noting<S: WordSource>(
+    alloc: Global,
+    source: &mut S,
+    limit: SizeLimit,
+    message: &mut ByteMessage,
+    table: &mut Option<TableSums>,
+) -> Result<bool, FrameFault> {
+    let ByteMessage {
+        bytes,
+        sizes,
+        starts,
+    } = message;
+    match read_parts(alloc, source, limit, sizes, bytes) {
+        Ok(true) => {
+            fill_starts(sizes, starts);
+            Ok(true)
+        }
+        Ok(false) => {
+            blank(sizes, starts);
+            Ok(false)
+        }
+        Err(fault) => {
+            *table = sums_after(fault, sizes);
+            blank(sizes, starts);
+            Err(fault)
+        }
+    }
+}
+
+/// Reads the next message of a stream, or `None` if the stream ends before its first word
+/// (encoding: Serialization Over a Stream).
+///
+/// A message is a table of its segments' sizes and then the words of the segments, in order. The
+/// table's padding may hold anything. Allocates once, after the table and before the first word of
+/// a segment: eight bytes for each word of the message.
+///
+/// To read one message after the other, see [`read_into`].
+///
+/// # Errors
+///
+/// - [`FrameFault::TooManySegments`]: the first word gives more than 512 segments. It was taken,
+///   and no more.
+/// - [`FrameFault::TooLarge`]: the sizes sum to more words than the limit. The table was taken, and
+///   no more.
+/// - [`FrameFault::Truncated`]: the source ended inside the message, at this byte.
+/// - [`FrameFault::Device`]: the device of the source failed.
+/// - [`FrameFault::Memory`]: the allocation failed. The table was taken, and no more.
+/// - [`FrameFault::Spent`]: an earlier error had closed the source.
+///
+/// After a message, and after `TooManySegments`, `TooLarge` and `Memory`, the source can be used
+/// on. After `Truncated` it returns `Spent` if its input ended inside a word or a packed group, and
+/// `None` if it ended between words.
+pub fn read_byte_message<S: WordSource>(
+    alloc: Global,
+    source: &mut S,
+    limit: SizeLimit,
+) -> Result<Option<ByteMessage>, FrameFault> {
+    let mut message = ByteMessage::blank(alloc);
+    match read_into(alloc, source, limit, &mut message) {
+        Ok(true) => Ok(Some(message)),
+        Ok(false) => Ok(None),
+        Err(fault) => Err(fault),
+    }
+}
+
+// How many bytes of a new buffer are filled with zeros before they are read over. They are still in
+// the cache then. Twice the buffer of an input, so that its buffered bytes leave enough of a piece to
+// be read without a copy.
+const PIECE: usize = 131_072;
+
+// How many bytes one call fills with zeros. The C library fills 2 KiB and more by one string
+// instruction, which was slow over pages that the system gives only as they are touched.
+const STEP: usize = 1024;
+
+// How many bytes are initialized after a run of literal words that was longer than this. They are
+// mostly the head of a further run, which is appended next.
+const FEW: usize = 64;
+
+/// Makes sure that a buffer has capacity for `need` bytes. If it hasn't, it is freed before another
+/// is allocated, so that its contents are neither moved nor kept beside the new buffer.
+pub(crate) fn make_space(
+    alloc: Global,
+    bytes: &mut Vec<u8>,
+    need: usize,
+) -> Result<(), AllocError> {
+    if bytes.capacity() < need {
+        *bytes = Vec::new(alloc);
+        *bytes = Vec::with_capacity(alloc, need)?;
+    }
+    Ok(())
+}
+
+// Makes a buffer at least `end` bytes long, within its capacity.
+#[inline(always)]
+fn lengthen(bytes: &mut Vec<u8>, end: usize) {
+    'steps: while bytes.len() < end {
+        let next = bytes.len() + STEP.min(end - bytes.len());
+        // the capacity suffices, so nothing is allocated
+        bytes.resize(next, 0).unwrap();
+    }
+}
+
+// Reads whole words over the bytes from `start` to `end`. Where there are none yet, zeros are
+// appended first.
+#[inline(always)]
+fn read_piece<S: WordSource>(
+    source: &mut S,
+    bytes: &mut Vec<u8>,
+    start: usize,
+    end: usize,
+) -> Result<(), SourceFault> {
+    lengthen(bytes, end);
+    match source.fill(&mut bytes[start..end]) {
+        Ok(true) => Ok(()),
+        Ok(false) => Err(SourceFault::Truncated {
+            byte: source.position(),
+        }),
+        Err(fault) => Err(fault),
+    }
+}
+
+// How much of a fresh buffer is initialized after a run of literal words that was appended.
+#[inline(always)]
+fn piece_after(run: usize) -> usize {
+    if run > FEW {
+        FEW
+    } else {
+        PIECE
+    }
+}
+
+// Appends buffered words to the bytes that were read, if the buffer has no others. Returns how many
+// bytes they are.
+#[inline(always)]
+fn append_run<S: WordSource>(
+    source: &mut S,
+    bytes: &mut Vec<u8>,
+    done: usize,
+    need: usize,
+) -> usize {
+    if bytes.len() > done {
+        return 0;
+    }
+    source.append(bytes, need - done)
+}
+
+/// Reads `words` words into a buffer with capacity for their bytes. The bytes that it has already
+/// are read over in one piece, and the rest in pieces of no more than `PIECE`. After each of these
+/// the source may append literal words.
+// Inlined, since a stream may be of many small messages.
+#[inline(always)]
+pub(crate) fn read_bytes<S: WordSource>(
+    source: &mut S,
+    words: usize,
+    bytes: &mut Vec<u8>,
+) -> Result<(), SourceFault> {
+    let need = 8 * words;
+    let mut done = 0;
+    let mut run = 0;
+    'pieces: while done < need {
+        // whole words, since an earlier message may have left any number of bytes
+        let held = need.min(bytes.len() / 8 * 8);
+        let end = held.max(done + piece_after(run).min(need - done));
+        match read_piece(source, bytes, done, end) {
+            Ok(()) => {}
+            Err(fault) => return Err(fault),
+        }
+        run = append_run(source, bytes, end, need);
+        done = end + run;
+    }
+    Ok(())
+}

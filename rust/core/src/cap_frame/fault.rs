@@ -1,0 +1,66 @@
+// crates/cap_frame/src/fault.rt without its contracts, by tools/erase: that text is proved, this one is only tested.
+//! How large a message may be, and why no message was read.
+
+use crate::cap_words::SourceFault;
+
+/// The most words that a message may have in all its segments together, at most 268435456.
+#[derive(Clone, Copy, Debug, PartialEq, Eq)]
+pub struct SizeLimit {
+    words: u64,
+}
+
+impl SizeLimit {
+    /// A limit of `words` words, or `None` past 268435456.
+    pub fn new(words: u64) -> Option<SizeLimit> {
+        if words <= 268435456 {
+            Some(SizeLimit { words })
+        } else {
+            None
+        }
+    }
+
+    /// How many words, at most 268435456.
+    pub fn words(self) -> u64 {
+        self.words
+    }
+}
+
+/// Why a source of words gave no message.
+#[derive(Clone, Copy, Debug, PartialEq, Eq)]
+pub enum FrameFault {
+    /// The first word gives `count` segments, more than 512. It was taken from the source, and no
+    /// more.
+    TooManySegments { count: u64 },
+    /// The table's sizes sum to `words` words, more than the limit. The table was taken from the
+    /// source, and no more.
+    TooLarge { words: u64 },
+    /// The source ended inside the message. `byte` is its position then.
+    Truncated { byte: u64 },
+    /// The device of the source failed in this call.
+    Device,
+    /// An allocation failed. The table was taken from the source, and no more.
+    Memory,
+    /// An earlier fault has ended the source.
+    Spent,
+}
+
+/// Why bytes begin with no message.
+#[derive(Clone, Copy, Debug, PartialEq, Eq)]
+pub enum FrontFault {
+    /// The first word gives `count` segments, more than 512.
+    TooManySegments { count: u64 },
+    /// The table's sizes sum to `words` words, more than the limit.
+    TooLarge { words: u64 },
+    /// The bytes end inside the message. To learn more, there must be `needed` bytes: 8, then those
+    /// of the table, then those of the whole frame.
+    Truncated { needed: u64 },
+}
+
+/// What a fault of the source is to the reading of a message.
+pub(crate) fn frame_fault(fault: SourceFault) -> FrameFault {
+    match fault {
+        SourceFault::Truncated { byte } => FrameFault::Truncated { byte },
+        SourceFault::Device => FrameFault::Device,
+        SourceFault::Spent => FrameFault::Spent,
+    }
+}

@@ -1,0 +1,208 @@
+// crates/cap_ptr/src/shapes.rt without its contracts, by tools/erase: that text is proved, this one is only tested.
+//! What following a pointer word gives: an object's sizes and shape, whether it lies inside its
+//! segment, and what it is charged.
+
+use crate::cap_frame::Segments;
+use crate::cap_ptr::forms::{code, data_size, kind, list_size, pointer_size};
+use crate::cap_ptr::near::{is_structs, structs_target};
+use crate::cap_spec::Reason;
+use crate::cap_words::signed_offset;
+
+/// The sizes of an object (encoding: Structs, Lists).
+#[derive(Clone, Copy, Debug, PartialEq, Eq)]
+pub enum Shape {
+    /// A struct: its data words, then its pointers.
+    Struct {
+        /// In words.
+        data_words: u16,
+        /// In pointers, of one word each.
+        pointers: u16,
+    },
+    /// A list of values that aren't pointers.
+    Scalars {
+        /// From 0 to 5: elements of no bits, 1 bit, 1 byte, 2 bytes, 4 bytes or 8 bytes.
+        code: u8,
+        /// In elements.
+        count: u32,
+    },
+    /// A list of pointers.
+    Pointers {
+        /// In pointers, of one word each.
+        count: u32,
+    },
+    /// A list of structs: a tag word, then the elements.
+    Structs {
+        /// The words of the list without its tag. Those past the last element are surplus.
+        words: u32,
+        /// In elements.
+        count: u32,
+        /// Of each element, in words.
+        data_words: u16,
+        /// Of each element, in pointers.
+        pointers: u16,
+    },
+}
+
+/// An object that lies inside its segment.
+#[derive(Clone, Copy, Debug, PartialEq, Eq)]
+pub struct Target {
+    /// Its segment, counted from 0.
+    pub segment: u32,
+    /// The word that it starts at, counted from 0: the tag of a list of structs.
+    pub start: u32,
+    /// How many words it takes, a tag and surplus words included.
+    pub words: u32,
+    /// How many words of landing pads led to it: 0, 1 or 2.
+    pub pads: u8,
+    /// The pads and the words, and one for each element without bits or words. Of a target that
+    /// `follow` or `near_target` returns it is less than 2^31.
+    pub charge: u64,
+    /// Its sizes.
+    pub shape: Shape,
+}
+
+/// What a pointer word leads to.
+#[derive(Clone, Copy, Debug, PartialEq, Eq)]
+pub enum Followed {
+    /// Nothing.
+    Null {
+        /// How many words of landing pads led to it: 0 or 1.
+        pads: u8,
+    },
+    /// A capability.
+    Cap {
+        /// How many words of landing pads led to it: 0 or 1.
+        pads: u8,
+        /// Its place in the capability table.
+        index: u32,
+    },
+    /// An object.
+    Target(Target),
+}
+
+impl Followed {
+    /// What following the word is charged, in words: the landing pads, and what an object is
+    /// charged. Of what `follow` returns it is less than 2^31.
+    #[inline(always)]
+    pub fn charge(&self) -> u64 {
+        match *self {
+            Followed::Null { pads } | Followed::Cap { pads, .. } => u64::from(pads),
+            Followed::Target(target) => target.charge,
+        }
+    }
+}
+
+/// How many bits each element of a list of this code has: codes 0 to 5 are those of values, and
+/// the others count as 64 (encoding: Lists).
+#[inline(always)]
+pub fn element_bits(code: u8) -> u32 {
+    match code {
+        0 => 0,
+        1 => 1,
+        2 => 8,
+        3 => 16,
+        4 => 32,
+        _ => 64,
+    }
+}
+
+/// How many words a list takes without a tag, by its code and its size.
+#[inline(always)]
+pub(crate) fn list_words(code: u8, size: u32) -> u32 {
+    ((u64::from(element_bits(code)) * u64::from(size) + 63) / 64) as u32
+}
+
+/// How many words the object of a struct or list pointer takes, with a tag.
+#[inline(always)]
+pub(crate) fn extent(word: u64) -> u32 {
+    if kind(word) == 0 {
+        return u32::from(data_size(word)) + u32::from(pointer_size(word));
+    }
+    let words = list_words(code(word), list_size(word));
+    if code(word) == 7 {
+        1 + words
+    } else {
+        words
+    }
+}
+
+/// The shape of an object that isn't a list of structs.
+#[inline(always)]
+pub(crate) fn plain_shape(word: u64) -> Shape {
+    if kind(word) == 0 {
+        return Shape::Struct {
+            data_words: data_size(word),
+            pointers: pointer_size(word),
+        };
+    }
+    let count = list_size(word);
+    match code(word) {
+        6 => Shape::Pointers { count },
+        code => Shape::Scalars { code, count },
+    }
+}
+
+/// The target of the word `word`, which encodes its shape, from word `start` of a segment on.
+#[inline(always)]
+pub(crate) fn target_at<M: Segments>(
+    message: &M,
+    pads: u8,
+    segment: u32,
+    start: u64,
+    word: u64,
+) -> Result<Followed, Reason> {
+    let words = extent(word);
+    if start + u64::from(words) > u64::from(message.len(segment)) {
+        return Err(Reason::OutOfSegment);
+    }
+    let start = start as u32;
+    if is_structs(word) {
+        return composite(message, pads, segment, start, word);
+    }
+    let charge = u64::from(pads) + u64::from(words) + empty_elements(word);
+    Ok(Followed::Target(Target {
+        segment,
+        start,
+        words,
+        pads,
+        charge,
+        shape: plain_shape(word),
+    }))
+}
+
+// The word that the object of a struct or list pointer starts at, if it isn't negative.
+#[inline(always)]
+pub(crate) fn start_of(place: u32, word: u64) -> Option<u64> {
+    let start = i64::from(place) + 1 + signed_offset(word);
+    if start < 0 {
+        None
+    } else {
+        Some(start as u64)
+    }
+}
+
+// The target of the word `word` of a list of structs, whose words lie inside their segment.
+// It is inlined, since a call writes its result in pieces, and its caller waits for them.
+#[inline(always)]
+fn composite<M: Segments>(
+    message: &M,
+    pads: u8,
+    segment: u32,
+    start: u32,
+    word: u64,
+) -> Result<Followed, Reason> {
+    let tag = message.word(segment, start);
+    match structs_target(word, tag, segment, start, pads) {
+        Ok(target) => Ok(Followed::Target(target)),
+        Err(reason) => Err(reason),
+    }
+}
+
+// How many elements of a list without a tag have no bits.
+fn empty_elements(word: u64) -> u64 {
+    if kind(word) == 1 && code(word) == 0 {
+        u64::from(list_size(word))
+    } else {
+        0
+    }
+}
