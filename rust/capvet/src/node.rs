@@ -1,0 +1,518 @@
+//! The nodes of a message, read by their paths without a schema.
+
+use crate::calls::{self, Answer, RawNode};
+use crate::{Limits, VetError};
+use core::convert::TryInto;
+use core::fmt;
+use core::iter::FusedIterator;
+use core::str;
+
+/// The kind of a node, with its sizes.
+#[derive(Clone, Copy, Debug, PartialEq, Eq, Hash)]
+#[non_exhaustive]
+pub enum Kind {
+    /// A null pointer.
+    Null,
+    /// A struct.
+    #[non_exhaustive]
+    Struct {
+        /// How many words of data it has.
+        data_words: u32,
+        /// How many pointers it has.
+        pointers: u32,
+    },
+    /// A list of numbers, bits, bytes, or elements without bits. Text and Data are lists of bytes.
+    #[non_exhaustive]
+    Values {
+        /// The code of an element, 0 to 5 for 0, 1, 8, 16, 32 and 64 bits (encoding: Lists).
+        element: u32,
+        /// How many elements it has.
+        count: u32,
+    },
+    /// A list of pointers.
+    #[non_exhaustive]
+    Pointers {
+        /// How many elements it has.
+        count: u32,
+    },
+    /// A list of structs.
+    #[non_exhaustive]
+    Structs {
+        /// How many elements it has.
+        count: u32,
+        /// How many words of data each element has.
+        data_words: u32,
+        /// How many pointers each element has.
+        pointers: u32,
+    },
+    /// A capability.
+    #[non_exhaustive]
+    Capability {
+        /// Its index in the table of capabilities.
+        index: u32,
+    },
+    /// A kind of a later library that this crate doesn't know.
+    Other(
+        /// The number of the kind.
+        u32,
+    ),
+}
+
+impl Kind {
+    fn of(raw: &RawNode) -> Self {
+        let RawNode {
+            count,
+            data_words,
+            pointers,
+            ..
+        } = *raw;
+        match raw.kind {
+            0 => Self::Null,
+            1 => Self::Struct {
+                data_words,
+                pointers,
+            },
+            2 => Self::Values {
+                element: raw.element,
+                count,
+            },
+            3 => Self::Pointers { count },
+            4 => Self::Structs {
+                count,
+                data_words,
+                pointers,
+            },
+            5 => Self::Capability {
+                index: raw.capability,
+            },
+            other => Self::Other(other),
+        }
+    }
+}
+
+/// The head of the line that `capvet dump` prints for a node, such as `struct 1 3`.
+impl fmt::Display for Kind {
+    fn fmt(&self, f: &mut fmt::Formatter<'_>) -> fmt::Result {
+        match self {
+            Self::Null => f.write_str("null"),
+            Self::Struct {
+                data_words,
+                pointers,
+            } => write!(f, "struct {data_words} {pointers}"),
+            Self::Values { element, count } => write!(f, "list {element} {count}"),
+            Self::Pointers { count } => write!(f, "pointers {count}"),
+            Self::Structs {
+                count,
+                data_words,
+                pointers,
+            } => write!(f, "structs {count} {data_words} {pointers}"),
+            Self::Capability { index } => write!(f, "cap {index}"),
+            Self::Other(kind) => write!(f, "unknown kind {kind}"),
+        }
+    }
+}
+
+/// A node of a message, which borrows its bytes from the message.
+#[derive(Clone, Copy, Debug, PartialEq, Eq)]
+pub struct Node<'b> {
+    kind: Kind,
+    data: &'b [u8],
+}
+
+impl<'b> Node<'b> {
+    pub(crate) fn of(bytes: &'b [u8], raw: &RawNode) -> Self {
+        let (offset, length) = (raw.offset as usize, raw.length as usize);
+        Self {
+            kind: Kind::of(raw),
+            data: &bytes[offset..offset + length],
+        }
+    }
+
+    /// Its kind, with its sizes.
+    #[must_use]
+    pub const fn kind(&self) -> Kind {
+        self.kind
+    }
+
+    /// Its own bytes, in place. Of a struct these are the data words, and of a list of values the values. Of a list of
+    /// structs they are the elements, each with its data words and then its pointers. Other kinds have none.
+    ///
+    /// Bits after the last value of a list of bits may be anything.
+    #[must_use]
+    pub const fn data(&self) -> &'b [u8] {
+        self.data
+    }
+
+    /// The number `i` of its own bytes, in units of 8 bits, or `None` after their end. See [`u64_at`](Node::u64_at).
+    #[must_use]
+    pub fn u8_at(&self, i: usize) -> Option<u8> {
+        self.data.get(i).copied()
+    }
+
+    /// The number `i` of its own bytes, in units of 16 bits, or `None` after their end. See [`u64_at`](Node::u64_at).
+    #[must_use]
+    pub fn u16_at(&self, i: usize) -> Option<u16> {
+        self.unit(i).map(u16::from_le_bytes)
+    }
+
+    /// The number `i` of its own bytes, in units of 32 bits, or `None` after their end. See [`u64_at`](Node::u64_at).
+    #[must_use]
+    pub fn u32_at(&self, i: usize) -> Option<u32> {
+        self.unit(i).map(u32::from_le_bytes)
+    }
+
+    /// The number `i` of its own bytes, in units of 64 bits, or `None` after their end.
+    ///
+    /// In a struct this is the field that a schema places at `i` units of its size. A reader with a schema takes a field
+    /// after the end as zero: `node.u64_at(i).unwrap_or(0)`. In a list of values of this size it is the element `i`.
+    #[must_use]
+    pub fn u64_at(&self, i: usize) -> Option<u64> {
+        self.unit(i).map(u64::from_le_bytes)
+    }
+
+    /// The bit `i` of its own bytes, or `None` after their end. In a struct this is the field that a schema places at bit
+    /// `i`, and in a list of bits the element `i`.
+    #[must_use]
+    pub fn bool_at(&self, i: usize) -> Option<bool> {
+        match self.kind {
+            Kind::Values { element: 1, count } if i >= count as usize => None,
+            _ => Some(self.u8_at(i / 8)? >> (i % 8) & 1 == 1),
+        }
+    }
+
+    // The bytes of the number `i`, in units of `N` bytes.
+    fn unit<const N: usize>(&self, i: usize) -> Option<[u8; N]> {
+        let start = i.checked_mul(N)?;
+        let unit = self.data.get(start..)?.get(..N)?;
+        unit.try_into().ok()
+    }
+
+    /// Its text, if it is a list of bytes that are valid UTF-8 and a zero byte after them. Only a schema says whether it is a
+    /// text.
+    #[must_use]
+    pub fn text(&self) -> Option<&'b str> {
+        match self.kind {
+            Kind::Values { element: 2, .. } => str::from_utf8(self.data.strip_suffix(&[0])?).ok(),
+            _ => None,
+        }
+    }
+
+    /// The elements of a list of structs, each of them a struct. Another kind of node has none.
+    ///
+    /// Their pointers are read by [`node`], by the list's path with an element and a pointer after it.
+    pub fn elements(&self) -> Elements<'b> {
+        let (count, data_words, pointers) = match self.kind {
+            Kind::Structs {
+                count,
+                data_words,
+                pointers,
+            } => (count, data_words, pointers),
+            _ => (0, 0, 0),
+        };
+        Elements {
+            rest: self.data,
+            count,
+            data_words,
+            pointers,
+        }
+    }
+}
+
+/// As [`Kind`].
+impl fmt::Display for Node<'_> {
+    fn fmt(&self, f: &mut fmt::Formatter<'_>) -> fmt::Result {
+        self.kind.fmt(f)
+    }
+}
+
+/// An iterator over the elements of a list of structs; see [`Node::elements`].
+#[derive(Clone, Debug)]
+#[must_use = "an iterator does nothing before it is asked"]
+pub struct Elements<'b> {
+    rest: &'b [u8],
+    count: u32,
+    data_words: u32,
+    pointers: u32,
+}
+
+impl<'b> Iterator for Elements<'b> {
+    type Item = Node<'b>;
+
+    fn next(&mut self) -> Option<Self::Item> {
+        self.count = self.count.checked_sub(1)?;
+        let (data_words, pointers) = (self.data_words, self.pointers);
+        let (data, rest) = self.rest.split_at(8 * data_words as usize);
+        self.rest = &rest[8 * pointers as usize..];
+        Some(Node {
+            kind: Kind::Struct {
+                data_words,
+                pointers,
+            },
+            data,
+        })
+    }
+
+    fn size_hint(&self) -> (usize, Option<usize>) {
+        (self.count as usize, Some(self.count as usize))
+    }
+}
+
+impl ExactSizeIterator for Elements<'_> {}
+
+impl FusedIterator for Elements<'_> {}
+
+/// The error of [`node`] and of [`nodes`](crate::nodes()).
+#[derive(Clone, Copy, Debug, PartialEq, Eq, Hash)]
+#[non_exhaustive]
+pub enum GetError {
+    /// The text is not a path.
+    #[non_exhaustive]
+    BadPath {
+        /// The first byte at which it is no path, counted from 0, or its length if it ends too early.
+        position: usize,
+    },
+    /// The path has no step that varies. Only [`nodes`](crate::nodes()) has this error.
+    #[non_exhaustive]
+    NoStep {
+        /// How many steps it has.
+        steps: usize,
+    },
+    /// The bytes hold no complete frame within the limits, or a pointer on the path isn't accepted.
+    NotAccepted(
+        /// The reason.
+        VetError,
+    ),
+}
+
+impl From<VetError> for GetError {
+    fn from(error: VetError) -> Self {
+        Self::NotAccepted(error)
+    }
+}
+
+impl fmt::Display for GetError {
+    fn fmt(&self, f: &mut fmt::Formatter<'_>) -> fmt::Result {
+        match self {
+            Self::BadPath { position } => write!(f, "BadPath at byte {position}"),
+            Self::NoStep { steps } => write!(f, "BadPath at step {steps}"),
+            Self::NotAccepted(error) => error.fmt(f),
+        }
+    }
+}
+
+#[cfg(feature = "std")]
+impl std::error::Error for GetError {}
+
+/// Returns the node at a path in the message that `bytes` are, or `None` if the path leads to nothing. It allocates nothing.
+///
+/// `/` is the root. `/p0/i7/p2` is the root's pointer 0, its element 7, and that element's pointer 2: `/p` steps from a
+/// struct to one of its pointers, and `/i` from a list of pointers or structs to an element. A reader with a schema takes
+/// both `None` and a null node as the default of the field.
+///
+/// A number is at most 65535 after `/p`, and at most 4294967295 after `/i`.
+///
+/// Only the pointers on the path are checked, so the message need not have been vetted. For a message that
+/// [`vet`](crate::vet) accepts with the same limits, and without [`Limits::no_table`], no path but a bad one is an error.
+///
+/// # Errors
+///
+/// The first of these that applies.
+///
+/// - [`GetError::NotAccepted`] with [`FrameError::BadLimits`](crate::FrameError::BadLimits): the limits have
+///   [`Limits::no_table`].
+/// - [`GetError::BadPath`]: `path` is not a path.
+/// - [`GetError::NotAccepted`] with [`VetError::Frame`]: the bytes hold no complete frame within the limits, or trailing bytes
+///   follow the message.
+/// - [`GetError::NotAccepted`] with [`VetError::Refused`]: it names the first pointer on the path at which anything is wrong or
+///   a limit is exceeded.
+/// - [`GetError::NotAccepted`] with [`VetError::ManySegments`]: the message has 512 segments.
+/// - [`GetError::NotAccepted`] with [`VetError::Refused`]: it names the first pointer on the path that isn't strict.
+///
+/// # Examples
+///
+/// ```
+/// use capvet::{GetError, Limits};
+///
+/// // A struct of one data word and one pointer, which leads to the text "Ada".
+/// let message = [
+///     0, 0, 0, 0, 4, 0, 0, 0, 0, 0, 0, 0, 1, 0, 1, 0, 7, 0, 0, 0, 0, 0, 0, 0, 1, 0, 0, 0, 34, 0, 0, 0, 65, 100, 97, 0, 0, 0,
+///     0, 0,
+/// ];
+/// let root = capvet::node(&message, "/", Limits::DEFAULT)?.unwrap();
+/// assert_eq!((root.to_string(), root.u64_at(0)), ("struct 1 1".to_owned(), Some(7)));
+/// let name = capvet::node(&message, "/p0", Limits::DEFAULT)?.unwrap();
+/// assert_eq!((name.to_string(), name.text()), ("list 2 4".to_owned(), Some("Ada")));
+/// assert_eq!(capvet::node(&message, "/p1", Limits::DEFAULT)?, None);
+/// let error = capvet::node(&message, "/p0/x", Limits::DEFAULT).unwrap_err();
+/// assert!(matches!(error, GetError::BadPath { position: 4, .. }));
+/// # Ok::<(), GetError>(())
+/// ```
+pub fn node<'b>(bytes: &'b [u8], path: &str, limits: Limits) -> Result<Option<Node<'b>>, GetError> {
+    let (answer, raw_node, raw) = calls::get(bytes, &limits, path);
+    match answer {
+        Answer::OK => Ok(Some(Node::of(bytes, &raw_node))),
+        Answer::NO_NODE => Ok(None),
+        Answer::BAD_PATH => Err(GetError::BadPath {
+            position: raw.detail as usize,
+        }),
+        _ => Err(VetError::of(answer, &raw).into()),
+    }
+}
+
+#[cfg(all(test, feature = "std"))]
+mod tests {
+    use super::*;
+    use crate::{Reason, Refusal};
+
+    const HEADER: &str = include_str!("../../../include/capvet.h");
+    const CONTACTS: &[u8] = include_bytes!("../../../examples/contacts.bin");
+    const TELEMETRY: &[u8] = include_bytes!("../../../examples/telemetry.bin");
+
+    fn found<'b>(bytes: &'b [u8], path: &str) -> Node<'b> {
+        let node = node(bytes, path, Limits::DEFAULT);
+        node.expect("the path is accepted").expect(path)
+    }
+
+    #[test]
+    fn kinds_have_the_numbers_of_the_header() {
+        for (number, (name, line)) in [
+            ("NULL", "null"),
+            ("STRUCT", "struct 4 5"),
+            ("VALUES", "list 2 3"),
+            ("POINTERS", "pointers 3"),
+            ("STRUCTS", "structs 3 4 5"),
+            ("CAPABILITY", "cap 6"),
+        ]
+        .into_iter()
+        .enumerate()
+        {
+            let member = format!("CAPVET_KIND_{name} = {number}");
+            assert!(HEADER.contains(&member), "{member}");
+            let raw = RawNode {
+                kind: number as u32,
+                element: 2,
+                count: 3,
+                data_words: 4,
+                pointers: 5,
+                capability: 6,
+                ..crate::calls::NO_NODE
+            };
+            assert_eq!(Kind::of(&raw).to_string(), line);
+        }
+    }
+
+    #[test]
+    fn numbers_end_with_the_bytes() {
+        let root = found(CONTACTS, "/");
+        assert_eq!(root.to_string(), "struct 1 3");
+        assert_eq!(root.u64_at(0), Some(0xd108_f750));
+        assert_eq!((root.u64_at(1), root.u64_at(usize::MAX)), (None, None));
+        assert_eq!(
+            (root.u32_at(0), root.u32_at(1)),
+            (Some(0xd108_f750), Some(0))
+        );
+        assert_eq!((root.u32_at(2), root.u16_at(1)), (None, Some(0xd108)));
+        assert_eq!((root.u16_at(4), root.u8_at(7)), (None, Some(0)));
+        assert_eq!((root.u8_at(3), root.u8_at(8)), (Some(0xd1), None));
+        assert_eq!(
+            (root.bool_at(4), root.bool_at(5)),
+            (Some(true), Some(false))
+        );
+        assert_eq!((root.bool_at(63), root.bool_at(64)), (Some(false), None));
+    }
+
+    #[test]
+    fn bits_end_with_the_count() {
+        let bits = found(TELEMETRY, "/p0/i0/p0");
+        assert_eq!(
+            (bits.to_string(), bits.data().len()),
+            ("list 1 42".to_owned(), 6)
+        );
+        let values: Vec<_> = (0..48).map(|i| bits.bool_at(i)).collect();
+        assert!(values[..42].iter().all(Option::is_some));
+        assert!(values[42..].iter().all(Option::is_none));
+        assert_eq!(
+            values[..4],
+            [Some(true), Some(true), Some(false), Some(true)]
+        );
+        assert_eq!(bits.text(), None);
+    }
+
+    #[test]
+    fn elements_are_structs_in_place() {
+        let list = found(CONTACTS, "/p0");
+        let elements = list.elements();
+        assert_eq!(
+            (list.to_string(), elements.len()),
+            ("structs 7 1 6".to_owned(), 7)
+        );
+        for (i, element) in elements.enumerate() {
+            assert_eq!(element, found(CONTACTS, &format!("/p0/i{i}")));
+            assert_eq!(element.kind().to_string(), "struct 1 6");
+        }
+        assert_eq!(found(CONTACTS, "/").elements().next(), None);
+    }
+
+    #[test]
+    fn a_text_is_valid_and_ends_in_zero() {
+        assert_eq!(
+            found(CONTACTS, "/p0/i0/p0").text(),
+            Some("fjord Ω Grüße lantern Grüße")
+        );
+        assert_eq!(found(CONTACTS, "/p0/i1/p0").text(), Some(""));
+        assert_eq!(found(CONTACTS, "/p0").text(), None);
+        let bytes = |data: &'static [u8]| Node {
+            kind: Kind::Values {
+                element: 2,
+                count: data.len() as u32,
+            },
+            data,
+        };
+        assert_eq!(bytes(b"ab\0").text(), Some("ab"));
+        assert_eq!(bytes(b"ab").text(), None);
+        assert_eq!(bytes(b"\xff\0").text(), None);
+        assert_eq!(bytes(b"").text(), None);
+    }
+
+    #[test]
+    fn a_path_leads_to_nothing_or_is_bad() {
+        for path in ["/p3", "/i0", "/p0/i7", "/p0/p0", "/p0/i1/p0/i0"] {
+            assert_eq!(node(CONTACTS, path, Limits::DEFAULT), Ok(None), "{path}");
+        }
+        for (path, position) in [
+            ("", 0),
+            ("p0", 0),
+            ("/p0/", 4),
+            ("/p01", 3),
+            ("/p0/i1/p0x", 9),
+        ] {
+            let bad = Err(GetError::BadPath { position });
+            assert_eq!(node(CONTACTS, path, Limits::DEFAULT), bad, "{path}");
+            // (before what is wrong with the bytes)
+            assert_eq!(node(&[], path, Limits::DEFAULT), bad, "{path}");
+        }
+        let text = GetError::BadPath { position: 4 }.to_string();
+        assert_eq!(text, "BadPath at byte 4");
+    }
+
+    #[test]
+    fn only_the_pointers_on_the_path_are_checked() {
+        let limits = Limits::DEFAULT;
+        let mut damaged = CONTACTS.to_vec();
+        // The pointer at word 7, which is /p0/i0/p0, leads outside.
+        damaged[66] ^= 0x40;
+        let error = crate::vet(&damaged, limits).expect_err("it is refused");
+        assert_eq!(error.to_string(), "refused OutOfSegment at 0:7 pointers 3");
+        assert_eq!(found(&damaged, "/p0").kind(), found(CONTACTS, "/p0").kind());
+        assert_eq!(found(&damaged, "/p0/i1/p0").text(), Some(""));
+        match node(&damaged, "/p0/i0/p0", limits) {
+            Err(GetError::NotAccepted(VetError::Refused(Refusal {
+                reason, position, ..
+            }))) => {
+                assert_eq!(reason, Reason::OutOfSegment);
+                assert_eq!(position.to_string(), "0:7");
+            }
+            other => panic!("{other:?}"),
+        }
+    }
+}

@@ -1,0 +1,418 @@
+//! Compares the calls with the program `capvet`, over the samples and over messages of which one bit is changed. The
+//! variable `CAPVET_PROGRAM` is the path of the program.
+
+#![cfg(feature = "alloc")]
+
+use capvet::{CanonicalError, ExclusiveError, Kind, Limits, Node, Report, VetError};
+use std::path::PathBuf;
+use std::process::Command;
+use std::{env, fs};
+
+const CONTACTS: &[u8] = include_bytes!("../../../examples/contacts.bin");
+const MANY_SEGMENTS: &[u8] = include_bytes!("../../../examples/contacts-many-segments.bin");
+const CYCLE: &[u8] = include_bytes!("../../../examples/cycle.bin");
+const SHARED: &[u8] = include_bytes!("../../../examples/shared.bin");
+const STREAM: &[u8] = include_bytes!("../../../examples/stream-of-four.bin");
+const TELEMETRY: &[u8] = include_bytes!("../../../examples/telemetry.bin");
+
+// What the program writes of these bytes to its standard output, and its status.
+fn program(test: &str, options: &[&str], bytes: &[u8]) -> (Vec<u8>, Option<i32>) {
+    let program = env::var_os("CAPVET_PROGRAM").expect("CAPVET_PROGRAM is the program's path");
+    let file = PathBuf::from(env!("CARGO_TARGET_TMPDIR")).join(test);
+    fs::write(&file, bytes).expect("the folder can be written");
+    let ran = Command::new(program).args(options).arg(file).output();
+    let ran = ran.expect("the program runs");
+    (ran.stdout, ran.status.code())
+}
+
+// What the program should write, by these texts of the messages: a line for each, up to the first without one.
+fn expected(
+    texts: &[Result<String, VetError>],
+    is_accepted: impl Fn(&str) -> bool,
+) -> (Vec<u8>, Option<i32>) {
+    let lines = texts.iter().map_while(|text| text.as_ref().ok());
+    let lines = lines
+        .enumerate()
+        .map(|(number, text)| format!("message {number}: {text}\n"));
+    let all = texts
+        .iter()
+        .all(|text| matches!(text, Ok(text) if is_accepted(text)));
+    (
+        lines.collect::<String>().into_bytes(),
+        Some(i32::from(!all)),
+    )
+}
+
+// The text of a verdict, or the error of bytes that hold no frame.
+fn verdict<T: ToString>(result: Result<T, VetError>) -> Result<String, VetError> {
+    match result {
+        Ok(report) => Ok(report.to_string()),
+        Err(error @ VetError::Frame(_)) => Err(error),
+        Err(refusal) => Ok(refusal.to_string()),
+    }
+}
+
+// 500 changed messages.
+fn changed() -> Vec<Vec<u8>> {
+    some_changed(500)
+}
+
+// `count` messages, each of them a sample of which one bit after the table is changed.
+fn some_changed(count: usize) -> Vec<Vec<u8>> {
+    let mut state = 7_u64;
+    let mut random = |below: usize| {
+        state ^= state << 13;
+        state ^= state >> 7;
+        state ^= state << 17;
+        (state % below as u64) as usize
+    };
+    let changed = (0..count).map(|_| {
+        let mut message = [CONTACTS, MANY_SEGMENTS, TELEMETRY, SHARED][random(4)].to_vec();
+        let table = (usize::from(message[0]) + 3) / 2 * 8;
+        let at = table + random(message.len() - table);
+        message[at] ^= 1 << random(8);
+        message
+    });
+    changed.collect()
+}
+
+// Streams: a sample with several messages, a prefix of it, nothing, and the changed messages.
+fn streams() -> [Vec<u8>; 4] {
+    [
+        STREAM.to_vec(),
+        STREAM[..3200].to_vec(),
+        Vec::new(),
+        changed().concat(),
+    ]
+}
+
+// Options of the program, with the limits that have the same effect.
+fn limits() -> [(&'static [&'static str], Limits); 5] {
+    let limits = Limits::DEFAULT;
+    [
+        (&["--strict", "--unamplified"], limits),
+        (&["--unamplified"], limits.allow_nonstrict(true)),
+        (&["--strict"], limits.allow_amplified(true)),
+        (&[], limits.allow_nonstrict(true).allow_amplified(true)),
+        (
+            &[
+                "--strict",
+                "--unamplified",
+                "--size",
+                "392",
+                "--words",
+                "300",
+                "--depth",
+                "6",
+            ],
+            limits.message_words(392).charge(300).depth(6),
+        ),
+    ]
+}
+
+#[test]
+#[ignore = "CAPVET_PROGRAM has to be the path of the program"]
+fn messages_are_accepted_and_refused_as_by_the_program() {
+    for (options, limits) in limits() {
+        for stream in streams() {
+            let messages = capvet::messages(&stream, limits);
+            let reports = messages.map(|message| message.map(|message| *message.report()));
+            let texts: Vec<_> = reports.map(verdict).collect();
+            let expected = expected(&texts, |text| text.starts_with("accepted"));
+            let printed = program("vet", &[&["vet"][..], options].concat(), &stream);
+            assert_eq!(printed, expected, "{options:?}");
+        }
+    }
+    let known: Vec<_> = capvet::messages(&changed().concat(), Limits::DEFAULT)
+        .map(|message| message.is_ok())
+        .collect();
+    let accepted = known.iter().filter(|is_accepted| **is_accepted).count();
+    assert!((50..450).contains(&accepted), "{accepted} of 500");
+}
+
+// The report of a message that uses no word twice, or why it isn't accepted.
+fn vet_exclusive(message: &[u8], limits: Limits) -> Result<Report, VetError> {
+    capvet::vet_exclusive_alloc(message, limits).map_err(|error| match error {
+        ExclusiveError::NotAccepted(error) => error,
+        other => panic!("{other:?}"),
+    })
+}
+
+// The frames of a stream.
+fn frames(mut stream: &[u8]) -> Vec<&[u8]> {
+    let mut frames = Vec::new();
+    while !stream.is_empty() {
+        let length = capvet::frame_length(stream, Limits::DEFAULT).expect("it has a frame");
+        let (frame, rest) = stream.split_at(length);
+        frames.push(frame);
+        stream = rest;
+    }
+    frames
+}
+
+#[test]
+#[ignore = "CAPVET_PROGRAM has to be the path of the program"]
+fn explanations_are_those_of_the_program() {
+    let samples = [CONTACTS, MANY_SEGMENTS, TELEMETRY, STREAM, SHARED, CYCLE];
+    let stream = [samples.concat(), some_changed(2000).concat()].concat();
+    for (options, limits) in limits() {
+        let (mut text, mut known) = (String::new(), Vec::new());
+        for frame in frames(&stream) {
+            let found = capvet::explain(frame, limits);
+            let verdict = match (verdict(capvet::vet(frame, limits)), &found) {
+                (Err(error), Err(frame)) => {
+                    assert_eq!(error, VetError::Frame(*frame));
+                    // (the program ends at a message without a frame)
+                    continue;
+                }
+                (verdict, _) => verdict.expect("both have a frame"),
+            };
+            let found = found.expect("both have a frame");
+            assert_eq!(found.is_none(), verdict.starts_with("accepted"));
+            let number = known.len();
+            text += &format!("message {number}: {verdict}\n");
+            text += &found.map_or(String::new(), |it| it.to_string());
+            known.push(frame);
+        }
+        let options = [&["explain"][..], options].concat();
+        let (printed, status) = program("explain", &options, &known.concat());
+        assert_eq!(status, Some(1));
+        assert!(without_input(&printed) == text, "{options:?}");
+    }
+}
+
+// The lines of the program, without what they say of the input: the library explains one message, which is in none.
+fn without_input(printed: &[u8]) -> String {
+    let text = std::str::from_utf8(printed).expect("the lines are UTF-8");
+    let lines = text.lines().map(|line| match line.split_once(", byte ") {
+        Some((message, _)) => message,
+        None => line,
+    });
+    lines.map(|line| line.to_string() + "\n").collect()
+}
+
+#[test]
+fn separate_segments_are_vetted_as_their_frame() {
+    for (_, limits) in limits() {
+        for message in changed()
+            .iter()
+            .map(Vec::as_slice)
+            .chain([STREAM, TELEMETRY])
+        {
+            let length = capvet::frame_length(message, Limits::DEFAULT).expect("it has a frame");
+            let message = &message[..length];
+            let segments: Vec<_> = capvet::segments(message).expect("it has a frame").collect();
+            let found = capvet::vet_segments(&segments, limits);
+            match (capvet::vet(message, limits), found) {
+                (Ok(framed), Ok(separate)) => {
+                    assert_eq!(framed.to_string(), separate.to_string());
+                    assert_eq!(framed.segments, separate.segments);
+                    assert_eq!(
+                        framed.length - separate.length,
+                        (segments.len() / 2 + 1) * 8
+                    );
+                }
+                (framed, separate) => {
+                    let text =
+                        |result: Result<Report, VetError>| result.map_err(|it| it.to_string());
+                    assert_eq!(text(framed), text(separate));
+                }
+            }
+        }
+    }
+}
+
+#[test]
+#[ignore = "CAPVET_PROGRAM has to be the path of the program"]
+fn segments_are_those_of_the_program() {
+    let changed = changed();
+    let mut text = String::new();
+    for (number, message) in changed.iter().enumerate() {
+        let segments: Vec<_> = capvet::segments(message).expect("it has a frame").collect();
+        let words: Vec<_> = segments.iter().map(|segment| segment.len() / 8).collect();
+        let sum: usize = words.iter().sum();
+        text += &format!("message {number}: segments {} words {sum}\n", words.len());
+        for (index, words) in words.iter().enumerate() {
+            text += &format!("segment {index}: {words}\n");
+        }
+        let root = segments[0][..8].iter().map(|byte| format!("{byte:02x}"));
+        text += &format!("root {}\n", root.collect::<String>());
+    }
+    let (printed, status) = program("segments", &["segments"], &changed.concat());
+    assert_eq!(status, Some(0));
+    assert!(printed == text.into_bytes());
+}
+
+#[test]
+#[ignore = "CAPVET_PROGRAM has to be the path of the program"]
+fn a_word_that_is_used_twice_is_found_as_by_the_program() {
+    let changed = changed();
+    for (options, limits) in limits() {
+        let texts: Vec<_> = changed
+            .iter()
+            .map(|it| verdict(vet_exclusive(it, limits)))
+            .collect();
+        let expected = expected(&texts, |text| text.starts_with("accepted"));
+        assert!(texts.iter().flatten().any(|text| text.contains("Overlap")));
+        let options = [&["vet", "--exclusive"][..], options].concat();
+        let printed = program("exclusive", &options, &changed.concat());
+        assert_eq!(printed, expected, "{options:?}");
+    }
+}
+
+#[test]
+#[ignore = "CAPVET_PROGRAM has to be the path of the program"]
+fn messages_are_canonical_as_for_the_program() {
+    let changed = changed();
+    let copies = [CONTACTS, TELEMETRY, SHARED].map(framed_copy);
+    let messages = [&changed[..100], &copies].concat();
+    for (options, limits) in limits() {
+        let results = messages.iter().map(|it| capvet::is_canonical(it, limits));
+        let texts: Vec<_> = results
+            .map(|result| result.map(|it| if it { "canonical" } else { "not canonical" }))
+            .map(verdict)
+            .collect();
+        let expected = expected(&texts, |text| text == "canonical");
+        let printed = program(
+            "check",
+            &[&["check"][..], options].concat(),
+            &messages.concat(),
+        );
+        assert_eq!(printed, expected, "{options:?}");
+    }
+}
+
+// The canonical form of a message, with a table.
+fn framed_copy(message: &[u8]) -> Vec<u8> {
+    let (words, _report) = capvet::canonical(message, Limits::DEFAULT).expect("it has a form");
+    framed(&words)
+}
+
+// One segment with its table.
+fn framed(words: &[u8]) -> Vec<u8> {
+    let size = (words.len() as u32 / 8).to_le_bytes();
+    [&[0; 4][..], &size, words].concat()
+}
+
+#[test]
+#[ignore = "CAPVET_PROGRAM has to be the path of the program"]
+fn canonical_forms_are_those_of_the_program() {
+    let changed = changed();
+    let options = ["canon", "--strict", "--unamplified"];
+    let (mut forms, mut refused) = (0, 0);
+    for message in changed
+        .iter()
+        .take(150)
+        .map(Vec::as_slice)
+        .chain([STREAM, SHARED])
+    {
+        let limits = Limits::DEFAULT;
+        let length = capvet::frame_length(message, limits).expect("it has a frame");
+        let message = &message[..length];
+        let (printed, status) = program("canon", &options, message);
+        match capvet::canonical(message, limits) {
+            Ok((words, report)) => {
+                assert_eq!((printed, status), (framed(&words), Some(0)));
+                assert_eq!(Ok(report), capvet::vet(message, limits));
+                forms += 1;
+            }
+            Err(error) => {
+                assert_eq!((printed, status), (Vec::new(), Some(1)));
+                let known = capvet::vet(message, limits);
+                match error {
+                    CanonicalError::NotAccepted(error) => assert_eq!(known, Err(error)),
+                    CanonicalError::HasCapability { report, .. } => assert_eq!(known, Ok(report)),
+                    other => panic!("{other:?}"),
+                }
+                refused += 1;
+            }
+        }
+    }
+    assert!(
+        forms > 20 && refused > 20,
+        "{forms} forms, {refused} refused"
+    );
+}
+
+// The node at a path of an accepted message.
+fn node<'b>(message: &'b [u8], path: &str, limits: Limits) -> Node<'b> {
+    let node = capvet::node(message, path, limits);
+    node.expect("the message is accepted").expect(path)
+}
+
+// The lines of a node, of its words and of the nodes below it.
+fn dump(message: &[u8], limits: Limits, path: &str, label: &str, level: usize) -> String {
+    let (node, indent) = (node(message, path, limits), "  ".repeat(level));
+    let mut text = format!("{indent}{label} {node}\n");
+    let (words, children) = match node.kind() {
+        Kind::Struct {
+            data_words,
+            pointers,
+            ..
+        } => (('d', u64::from(data_words)), ('p', pointers)),
+        Kind::Values { .. } => (('w', (node.data().len() as u64 + 7) / 8), ('i', 0)),
+        Kind::Pointers { count, .. } => (('w', 0), ('i', count)),
+        Kind::Structs {
+            data_words: 0,
+            pointers: 0,
+            ..
+        } => (('w', 0), ('i', 0)),
+        Kind::Structs { count, .. } => (('w', 0), ('i', count)),
+        _ => (('w', 0), ('i', 0)),
+    };
+    for i in 0..words.1 {
+        text += &format!(
+            "{indent}  {}{i} {:016x}\n",
+            words.0,
+            word(&node, i as usize).swap_bytes()
+        );
+    }
+    let elements: Vec<_> = node.elements().collect();
+    for i in 0..children.1 {
+        let step = format!("{}{i}", children.0);
+        let below = format!("{}/{step}", path.trim_end_matches('/'));
+        if let Some(element) = elements.get(i as usize) {
+            assert_eq!(*element, self::node(message, &below, limits));
+        }
+        text += &dump(message, limits, &below, &step, level + 1);
+    }
+    text
+}
+
+// The word `i` of a node's own, of which bits after the last value are zero.
+fn word(node: &Node, i: usize) -> u64 {
+    if let Kind::Values { element: 1, .. } = node.kind() {
+        let bits = (0..64).map(|bit| u64::from(node.bool_at(64 * i + bit) == Some(true)) << bit);
+        return bits.sum();
+    }
+    let bytes = (0..8).map(|byte| u64::from(node.u8_at(8 * i + byte).unwrap_or(0)) << (8 * byte));
+    let word = bytes.sum();
+    assert!(node.u64_at(i).map_or(true, |it| it == word));
+    word
+}
+
+#[test]
+#[ignore = "CAPVET_PROGRAM has to be the path of the program"]
+fn nodes_are_those_of_the_program() {
+    let stream = [STREAM.to_vec(), MANY_SEGMENTS.to_vec(), changed().concat()].concat();
+    for (options, limits) in limits() {
+        let mut text = String::new();
+        let mut refused = false;
+        for (number, message) in capvet::messages(&stream, limits).enumerate() {
+            match message {
+                Ok(message) => {
+                    text += &format!("message {number}: {}\n", message.report());
+                    text += &dump(message.bytes(), limits, "/", "root", 0);
+                }
+                Err(VetError::Frame(_)) => refused = true,
+                Err(error) => {
+                    text += &format!("message {number}: {error}\n");
+                    refused = true;
+                }
+            }
+        }
+        let expected = (text.into_bytes(), Some(i32::from(refused)));
+        let printed = program("dump", &[&["dump"][..], options].concat(), &stream);
+        assert!(printed == expected, "{options:?}");
+    }
+}
