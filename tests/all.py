@@ -40,6 +40,7 @@ SCRIPTS = (
     ("fuzzing", ["fuzz.py", PROGRAM, ARCHIVE]),
     ("the guard", ["guard.py", PROGRAM, ARCHIVE]),
     ("the packages", ["dist.py", PROGRAM, ARCHIVE]),
+    ("the text without contracts", ["plain.py", PROGRAM, ARCHIVE]),
     ("messages before their readers", ["before_readers.py", PROGRAM, ARCHIVE]),
     ("RPC of Rust", ["rust_rpc.py", PROGRAM, ARCHIVE]),
     ("the library from C, C++ and Rust", ["library.py", PROGRAM, ARCHIVE]),

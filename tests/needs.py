@@ -45,7 +45,9 @@ MODULES = {"wheel": ("cffi, setuptools, venv, wheel", "python3-cffi python3-setu
 LIBRARIES = {"libcapnp": (("pkg-config", "--exists", "capnp-rpc"), "libcapnp-dev"),
              "libcrypto": (("pkg-config", "--exists", "libcrypto"), "libssl-dev")}
 # Crates, by their folders.
-SOURCES = {"crate-capnp": ("capnp-0.14.*", "librust-capnp-dev"),
+SOURCES = {"crates": ("itoa-1.*", "librust-arrayvec-dev librust-byteorder-dev librust-hex-dev librust-itoa-dev"),
+           "crate-clap": ("clap-4.*", "librust-clap-dev"),
+           "crate-capnp": ("capnp-0.14.*", "librust-capnp-dev"),
            "crate-capnp-rpc": ("capnp-rpc-0.14.*", "librust-capnp-rpc-dev librust-futures-dev"),
            "crate-tokio": ("tokio-util-0.7.*", "librust-tokio-dev librust-tokio-util-dev")}
 # Compilers, each with its language. (their packages only recommend the headers and libraries that a program needs)
