@@ -404,11 +404,11 @@ capvet_answer capvet_vet(const uint8_t *bytes, size_t length, const capvet_limit
  * a path reaches are distinct words. Then a write to one object changes no other. Returns
  * CAPVET_OVERLAP if a word is used twice. Objects without words use none.
  *
- * On CAPVET_OK and CAPVET_OVERLAP the first *required elements of `marks` have been overwritten, and the
- * others are unchanged. On CAPVET_OVERLAP the report has the place, `length` and `segments`.
+ * After CAPVET_OK and CAPVET_OVERLAP the contents of the first *required elements of `marks` are unspecified,
+ * and the others are unchanged. On CAPVET_OVERLAP the report has the place, `length` and `segments`.
  * CAPVET_BUFFER_TOO_SMALL comes with the report of capvet_vet: overlaps were not looked for.
  *
- * Cost: two walks, and marking each word. */
+ * Cost: one walk, and a second one that marks each word and ends at the first overlap. */
 CAPVET_CALL((3, 6, 7))
 capvet_answer capvet_vet_exclusive(const uint8_t *bytes, size_t length, const capvet_limits *limits,
                                    uint64_t *marks, size_t marks_count, size_t *required,
@@ -529,8 +529,9 @@ size_t capvet_canonical_bound(size_t length) CAPVET_NOEXCEPT;
  * all default lose their words in them and are still charged. With the same limits, and `message_words` at
  * least the words of these bytes, the answer is CAPVET_OK.
  *
- * Cost: one walk that compares, at most about twice capvet_vet. Only if the message differs from its form and a
- * far pointer of an unusual kind comes later, a second walk follows. */
+ * Cost: one walk that compares, at most about twice capvet_vet. If the message differs from its form, a second
+ * walk may follow, which only checks: after an early difference, for an amplified message, and where a far
+ * pointer of an unusual kind comes later. */
 CAPVET_CALL((3, 4))
 capvet_answer capvet_is_canonical(const uint8_t *bytes, size_t length, const capvet_limits *limits,
                                   capvet_report *report) CAPVET_NOEXCEPT;

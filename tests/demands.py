@@ -103,6 +103,20 @@ MANY_AND_CYCLE = MANY_SEGMENTS[:-16] + "fcffffff00000100"
 MANY_AND_PAD = MANY_SEGMENTS.replace("01000000", "02000000", 1)[:-16] + "0a00000000000000 0000000000000000"
 MOST_AND_PAD = many(511).hex().replace("01000000", "02000000", 1)[:-16] + "0a00000000000000 0000000000000000"
 
+
+
+def doubled(last, *more):
+    """A struct of two pointers. The first leads to 12 structs, each with two pointers to the next, and the last with two null ones.
+    These take 8,190 pointers, so the second pointer of the first struct is number 8,193."""
+    pairs = 11 * ["0400000000000200", "0000000000000200"]
+    chain = ["0000000000000200", "0400000000000200", last, *pairs, *2 * ["0000000000000000"], *more]
+    return f"00000000{len(chain):02x}000000" + "".join(chain)
+
+
+DOUBLED = doubled("0000000000000000")
+DOUBLED_AND_RESERVED = doubled("0700000000000000")
+DOUBLED_AND_PAD = doubled("da00000000000000", "0000000000000000")
+
 # What comes first where several faults are there.
 ORDER = (
     # a refusal before each construct
@@ -116,6 +130,13 @@ ORDER = (
     *refused("--strict --words 0", NULL_PAD, "WordLimit at 0:0 pointers 1"),
     *refused("--strict --words 1", EMPTY_SEGMENT, "WordLimit at 0:0 pointers 1"),
     *refused("--strict --depth 0", EMPTY_SEGMENT, "DepthLimit at 0:0 pointers 1"),
+    # each of these before words that are used twice, also long after them
+    *refused("", DOUBLED_AND_RESERVED, "Reserved at 0:2 pointers 8193"),
+    *refused("--strict", DOUBLED_AND_RESERVED, "Reserved at 0:2 pointers 8193"),
+    *refused("--strict", DOUBLED_AND_PAD, "NullPad at 0:2 pointers 8193"),
+    *refused("--words 8192", DOUBLED_AND_PAD, "WordLimit at 0:2 pointers 8193"),
+    Row("vet --exclusive", DOUBLED, "message 0: refused Overlap at 0:24 pointers 16\n", status=1),
+    Row("vet --exclusive", DOUBLED_AND_PAD, "message 0: refused Overlap at 0:24 pointers 16\n", status=1),
     # 512 segments before a pointer
     *refused("--strict", MANY_AND_PAD, "ManySegments at 0:0 pointers 0"),
     *refused("--strict", MOST_AND_PAD, "NullPad at 0:0 pointers 1"),
@@ -131,6 +152,8 @@ ORDER = (
     *refused("--strict", CAPABILITY_AND_PAD, "NullPad at 0:2 pointers 3"),
     # a message that isn't canonical comes after all of these
     Row("check --strict", SHARED, "message 0: not canonical\n", status=1),
+    Row("check --strict", DOUBLED, "message 0: not canonical\n", status=1),
+    Row("check", DOUBLED_AND_PAD, "message 0: not canonical\n", status=1),
 )
 
 # A message that isn't strict ends no run but that of `canon`.

@@ -56,8 +56,8 @@ impl std::error::Error for ExclusiveError {}
 /// list elements without bits or without words.
 ///
 /// `marks` is scratch memory with one bit for each word, and may hold anything before the call. The marks take the words
-/// of all segments / 64 + 1 elements, so `bytes.len() / 512 + 1` elements are always enough. The elements after the marks are
-/// unchanged. It allocates nothing.
+/// of all segments / 64 + 1 elements, so `bytes.len() / 512 + 1` elements are always enough. The contents of the marks after
+/// the call are unspecified, and the elements after them are unchanged. It allocates nothing.
 ///
 /// # Errors
 ///
@@ -65,8 +65,8 @@ impl std::error::Error for ExclusiveError {}
 ///
 /// - [`ExclusiveError::NotAccepted`]: the message isn't accepted, as by [`vet`](crate::vet). `marks` is unchanged.
 /// - [`ExclusiveError::BufferTooSmall`]: `marks` is too small. It is unchanged.
-/// - [`ExclusiveError::NotAccepted`] for [`Reason::Overlap`](crate::Reason::Overlap): a word is used twice. The marks have been
-///   written.
+/// - [`ExclusiveError::NotAccepted`] for [`Reason::Overlap`](crate::Reason::Overlap): a word is used twice. The contents of the
+///   marks are unspecified.
 ///
 /// # Examples
 ///

@@ -4,10 +4,10 @@ use Rattle.cap_spec.specs.Denoting.{places}
 use Rattle.cap_spec.proofs.Lemmas.{disjoint_of_none, none_of_disjoint, lead_word}
 use Rattle.cap_spec.proofs.ProofNames.{List, Option, [], arith, false, inl, inr, length, refl, true, ℕ, ◌++◌, ◌∷◌}
 use Rattle.cap_spec.proofs.ProofNames.{◌≡◌, ∥∥₁_elim, props, IsDisjoint, IsFirstOverlap, Occupies, pads_of, Costs}
-use Rattle.cap_spec.proofs.ProofNames.{OnOk, Result, extent, rules}
+use Rattle.cap_spec.proofs.ProofNames.{OnOk, Result, Some, extent, rules}
 use Rattle.cap_vet.specs.VetNames.{Step, Conflicts, IsMarked, MarksAll, Ahead, HasWalked, IsLookedAt, Report}
 use Rattle.cap_vet.specs.OverlapSteps.{KnowsMarks, KnowsOverlap}
-use Rattle.cap_vet.specs.Overlapping.{EndsMarking}
+use Rattle.cap_vet.specs.Overlapping.{EndsMarking, OverlapsFirst}
 use Rattle.cap_vet.specs.Taken.{HasMarked, HasCapacity}
 use Rattle.cap_vet.specs.declared.exclusiveness.marks.Marks.{Marks}
 use Rattle.cap_vet.specs.declared.exclusiveness.overlap_turn.Overlap.{Overlap}
@@ -51,6 +51,11 @@ known_marks m seen marks first e k = search rules
 pub still_overlaps : (m : List (List ℕ)) (seen more : List (List Step)) (marks : Marks) (first : Option Overlap) → is_some first ≡ true
     → KnowsMarks m seen marks first → KnowsMarks m more marks first
 still_overlaps m seen more marks first e k = search rules
+
+-- and is the first
+pub kept_overlaps : (m : List (List ℕ)) (seen : List (List Step)) (marks : Marks) (first : Option Overlap) (o : Overlap) → first ≡ Some o
+    → KnowsMarks m seen marks first → OverlapsFirst m o
+kept_overlaps m seen marks first o e k = search rules
 
 -- a walk that goes on knows both
 pub both_known : {X E A : Type 0} (B : Type 0) (r : Result X E) → A → OnOk r B → OnOk r (A × B)

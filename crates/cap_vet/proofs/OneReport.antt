@@ -17,3 +17,8 @@ one_report m words depth a b h k = search (rules, one_tree, one_cap)
 -- A message isn't both accepted and refused.
 pub not_both : (m : List (List ℕ)) (words depth : ℕ) (a : Report) (r : Refusal) → IsAccepted m words depth a → IsRefused m words depth r → ⊥
 not_both m words depth a r (t, h) k = within_not_refused m words depth r (t, a.charge, a.depth, h.within) k
+
+-- the same within limits of these numbers
+pub not_both_within : (m : List (List ℕ)) (words depth : ℕ) {words' depth' : ℕ} {a : Report} {r : Refusal} → words' ≡ words → depth' ≡ depth
+    → IsAccepted m words depth a → IsRefused m words' depth' r → ⊥
+not_both_within m words depth w d accepted refused = not_both m words depth _ _ accepted (rw (w, d) at refused)

@@ -1,6 +1,8 @@
 //! What may be demanded of a message beside the limits.
 
 ghost use Rattle.cap_spec.specs.Faults.{IsRefused};
+ghost use Rattle.cap_spec.specs.Frames.{sizes_of};
+ghost use Rattle.cap_spec.specs.Unamplified.{slack};
 ghost use Rattle.cap_spec.specs.declared.Refusal.{Refusal};
 ghost use Rattle.cap_spec.specs.declared.StrictRefusal.{StrictRefusal};
 ghost use Rattle.cap_spec.specs.declared.StrictRefusal.TheVariants.{Refused};
@@ -8,7 +10,7 @@ ghost use Rattle.cap_vet.specs.Demands.{IsDemandFault, Meets, words_under};
 ghost use Rattle.cap_vet.specs.Limits.{depth_of, words_of};
 ghost use Rattle.cap_vet.specs.Reports.{IsAccepted};
 ghost use Rattle.cap_vet.specs.Vettings.{message_of, report_of};
-ghost use Rattle.std.specs.Prelude.{Err, ◌≡◌, IfErr, IfOk, IsFalse, IsOk};
+ghost use Rattle.std.specs.Prelude.{Err, ◌+◌, ◌≡◌, IfErr, IfOk, IsFalse, IsOk, sum};
 
 use crate::lengths::message_words;
 use crate::limits::Limits;
@@ -85,7 +87,14 @@ pub fn limits_under<M: Segments>(message: &M, limits: Limits, demands: Demands) 
     ensures depth { depth_of result ≡ depth_of limits }
 {
     if demands.unamplified {
-        return limits.lowered(message_words(message) + SLACK);
+        return limits.lowered(unamplified_words(message));
     }
     limits
+}
+
+/// The highest charge of an unamplified message.
+pub(crate) fn unamplified_words<M: Segments>(message: &M) -> u64
+    ensures { result ≡ sum (sizes_of (M.segments message.now)) + slack }
+{
+    message_words(message) + SLACK
 }

@@ -172,9 +172,9 @@ pub extern "C" fn capvet_vet_segments(
 /// a buffer of numbers, not bytes, and may hold anything before. For an accepted message `required`
 /// is how many numbers the call needs, whatever the buffer has. For any other message it is 0.
 ///
-/// With `CAPVET_OK` and `CAPVET_OVERLAP` the first `required` numbers hold marks, and the others
-/// are unchanged. With any other result all are unchanged. The result is the number of what
-/// [`vet_exclusive`] returns. The report is written whole. Allocates nothing.
+/// After `CAPVET_OK` and `CAPVET_OVERLAP` the contents of the first `required` numbers are
+/// unspecified, and the others are unchanged. After any other result all are unchanged. The result is
+/// the number of what [`vet_exclusive`] returns. The report is written whole. Allocates nothing.
 #[unsafe(no_mangle)]
 pub extern "C" fn capvet_vet_exclusive(
     bytes: &[u8],

@@ -2,7 +2,6 @@
 
 ghost use Rattle.cap_spec.specs.Frames.{sizes_of};
 ghost use Rattle.cap_spec.specs.GreatestLimits.{most_depth, most_words};
-ghost use Rattle.cap_spec.specs.Faults.{IsRefused};
 ghost use Rattle.cap_spec.specs.Messages.{segment_of};
 ghost use Rattle.cap_spec.specs.Occupying.{IsDisjoint, IsFirstOverlap, empty_count};
 ghost use Rattle.cap_spec.specs.Tree.{Tree};
@@ -14,12 +13,12 @@ ghost use Rattle.cap_vet.specs.OverlapSteps.{KnowsFirsts};
 ghost use Rattle.cap_vet.specs.Overlapping.{EndsMarking, OverlapsFirst};
 ghost use Rattle.cap_vet.specs.Reports.{IsAccepted, IsReport};
 ghost use Rattle.cap_vet.specs.Taken.{HasCapacity, IsTaken, start_of};
-ghost use Rattle.cap_vet.specs.Turns.{IsWalking};
+ghost use Rattle.cap_vet.specs.Turns.{IsStopped, IsWalking};
 ghost use Rattle.cap_vet.specs.Vettings.{message_of, report_of};
 ghost use Rattle.cap_vet.specs.declared.walk.vetting.Report.{Report};
 ghost use Rattle.std.specs.Prelude.{Err, ◌+◌, ◌*◌, ◌<◌, ◌≡◌, ◌≤◌, ◌⊎◌, [], IfErr, IfOk, IsErrOf, IsOk, length, sum, ℕ};
 
-use crate::demands::{Demands, limits_under, vet_with};
+use crate::demands::{Demands, limits_under, unamplified_words, vet_with};
 use crate::exclusiveness::exclusive::Exclusive;
 use crate::exclusiveness::marks::{Marks, fill_starts, numbers_for};
 use crate::exclusiveness::overlap_turn::{Overlap, OverlapSearch};
@@ -32,7 +31,7 @@ use crate::walk::vetting::Report;
 use crate::walk::walking::walk;
 use arrayvec::ArrayVec;
 use cap_frame::Segments;
-use cap_spec::{Refusal, StrictRefusal};
+use cap_spec::StrictRefusal;
 use std::alloc::Global;
 
 /// Why a message isn't exclusive.
@@ -58,8 +57,9 @@ pub enum ExclusiveRefusal {
 /// is null or a capability. It uses the words of its object, the tag among them. An object without
 /// words uses none, wherever it starts.
 ///
-/// Walks once. Allocates once: one bit for each word of the message, and at most 64 bits more. Where
-/// that fails, the message is vetted all the same.
+/// Walks once, but for amplified messages with an overlap: these are walked a second time, without
+/// marks. Allocates once: one bit for each word of the message, and at most 64 bits more. Where that
+/// fails, the message is vetted all the same.
 ///
 /// # Errors
 ///
@@ -154,11 +154,13 @@ fn vet_marking<'m, M: Segments>(
     ensures err { let m = M.segments message.now in
         IfErr result (IsDemandFault demands m (words_of limits) (depth_of limits)) }
 {
-    let limits = limits_under(message, limits, demands);
+    let within = limits_under(message, limits, demands);
+    let most = unamplified_words(message);
     let mut report = Report::default();
-    let firsts = match mark_message(message, &limits, bits, &mut report) {
+    let firsts = match mark_message(message, &within, most, bits, &mut report) {
         Ok(firsts) => firsts,
-        Err(refusal) => return Err(StrictRefusal::Refused(refusal)),
+        Err(Stopped::Refused(refusal)) => return Err(StrictRefusal::Refused(refusal)),
+        Err(Stopped::ByTurn(first)) => return vet_overlapping(message, limits, demands, first),
     };
     match strict_fault(message, demands, firsts.lax) {
         None => Ok((Vetted { message, report }, firsts.overlap)),
@@ -166,10 +168,32 @@ fn vet_marking<'m, M: Segments>(
     }
 }
 
+// Vets a message of which this is the first pointer that overlaps, without marks.
+#[cold]
+#[inline(never)]
+fn vet_overlapping<'m, M: Segments>(
+    message: &'m M,
+    limits: Limits,
+    demands: Demands,
+    first: Overlap,
+) -> Result<(Vetted<'m, M>, Option<Overlap>), StrictRefusal>
+    requires { OverlapsFirst (M.segments message.now) first }
+    ensures ok { let m = M.segments message.now in IfOk result (λ r.
+        IsMet demands m (words_of limits) (depth_of limits) (report_of r.0) × EndsMarking m r.1) }
+    ensures message { IfOk result (λ r. message_of r.0 ≡ message.now) }
+    ensures err { let m = M.segments message.now in
+        IfErr result (IsDemandFault demands m (words_of limits) (depth_of limits)) }
+{
+    match vet_with(message, limits, demands) {
+        Ok(vetted) => Ok((vetted, Some(first))),
+        Err(refusal) => Err(refusal),
+    }
+}
+
 impl<'m, M: Segments> Vetted<'m, M> {
     /// The same message as one of which no word is used twice (profile), as for
-    /// [`crate::vet_exclusive`]. Walks the message once more. Allocates once: one bit for each word
-    /// of the message, and at most 64 bits more.
+    /// [`crate::vet_exclusive`]. Walks the message once more, up to the first overlap. Allocates once:
+    /// one bit for each word of the message, and at most 64 bits more.
     ///
     /// # Errors
     ///
@@ -202,7 +226,7 @@ impl<'m, M: Segments> Vetted<'m, M> {
     }
 }
 
-/// The first pointer that overlaps in an accepted message. Walks the message once more.
+/// The first pointer that overlaps in an accepted message. Walks the message once more, and stops there.
 pub(crate) fn first_overlap<M: Segments>(message: &M, bits: &mut [u64]) -> Option<Overlap>
     requires enough { let m = M.segments message.now in
         start_of m (length m) ≤ 64 * length bits.old }
@@ -212,10 +236,11 @@ pub(crate) fn first_overlap<M: Segments>(message: &M, bits: &mut [u64]) -> Optio
     ensures { EndsMarking (M.segments message.now) result }
 {
     let mut report = Report::default();
-    match mark_message(message, &Limits::greatest(), bits, &mut report) {
+    match mark_message(message, &Limits::greatest(), 0, bits, &mut report) {
         Ok(firsts) => firsts.overlap,
+        Err(Stopped::ByTurn(first)) => Some(first),
         // The message is accepted.
-        Err(_) => unreachable!(),
+        Err(Stopped::Refused(_)) => unreachable!(),
     }
 }
 
@@ -226,14 +251,16 @@ struct Firsts {
     lax: Option<LaxPointer>,
 }
 
-// Walks a message, and marks what each pointer uses. A table of where the bits of its segments start is
-// made ready for each message of several alone.
+// Walks a message, and marks what each pointer uses. After an overlap the walk stops at a pointer past
+// number `most`. A table of where the bits of its segments start is made ready for each message of
+// several alone.
 fn mark_message<M: Segments>(
     message: &M,
     limits: &Limits,
+    most: u64,
     bits: &mut [u64],
     report: &mut Report,
-) -> Result<Firsts, Refusal>
+) -> Result<Firsts, Stopped<Overlap>>
     requires enough { let m = M.segments message.now in
         start_of m (length m) ≤ 64 * length bits.old }
     requires none { (s w : ℕ) → ¬ IsTaken (M.segments message.now) bits.old s w }
@@ -241,12 +268,12 @@ fn mark_message<M: Segments>(
     ensures ok { let m = M.segments message.now in IfOk result (λ firsts.
         IsWalking m limits.now [] report.new (KnowsFirsts m firsts)) }
     ensures err { let m = M.segments message.now in
-        IfErr result (IsRefused m (words_of limits.now) (depth_of limits.now)) }
+        IfErr result (IsStopped m limits.now (OverlapsFirst m)) }
 {
     if message.count() == 1 {
-        return mark_all(message, limits, &[0], bits, report);
+        return mark_all(message, limits, most, &[0], bits, report);
     }
-    mark_segments(message, limits, bits, report)
+    mark_segments(message, limits, most, bits, report)
 }
 
 // The same of a message of several segments.
@@ -255,9 +282,10 @@ fn mark_message<M: Segments>(
 fn mark_segments<M: Segments>(
     message: &M,
     limits: &Limits,
+    most: u64,
     bits: &mut [u64],
     report: &mut Report,
-) -> Result<Firsts, Refusal>
+) -> Result<Firsts, Stopped<Overlap>>
     requires enough { let m = M.segments message.now in
         start_of m (length m) ≤ 64 * length bits.old }
     requires none { (s w : ℕ) → ¬ IsTaken (M.segments message.now) bits.old s w }
@@ -265,32 +293,34 @@ fn mark_segments<M: Segments>(
     ensures ok { let m = M.segments message.now in IfOk result (λ firsts.
         IsWalking m limits.now [] report.new (KnowsFirsts m firsts)) }
     ensures err { let m = M.segments message.now in
-        IfErr result (IsRefused m (words_of limits.now) (depth_of limits.now)) }
+        IfErr result (IsStopped m limits.now (OverlapsFirst m)) }
 {
     let mut starts = ArrayVec::new();
     fill_starts(message, &mut starts);
-    mark_all(message, limits, starts.as_slice(), bits, report)
+    mark_all(message, limits, most, starts.as_slice(), bits, report)
 }
 
 // The same with a table of where the bits of each segment start.
 fn mark_all<M: Segments>(
     message: &M,
     limits: &Limits,
+    most: u64,
     starts: &[u64],
     bits: &mut [u64],
     report: &mut Report,
-) -> Result<Firsts, Refusal>
+) -> Result<Firsts, Stopped<Overlap>>
     requires fits { HasCapacity (M.segments message.now) starts.now bits.old }
     requires none { (s w : ℕ) → ¬ IsTaken (M.segments message.now) bits.old s w }
     requires root { 0 < length (segment_of (M.segments message.now) 0) }
     ensures ok { let m = M.segments message.now in IfOk result (λ firsts.
         IsWalking m limits.now [] report.new (KnowsFirsts m firsts)) }
     ensures err { let m = M.segments message.now in
-        IfErr result (IsRefused m (words_of limits.now) (depth_of limits.now)) }
+        IfErr result (IsStopped m limits.now (OverlapsFirst m)) }
 {
     let mut search = OverlapSearch {
         marks: Marks { starts, bits },
         first: None,
+        most,
         strictness: LaxSearch { first: None },
     };
     if !search.marks.mark_words(0, 0, 1) {
@@ -301,7 +331,6 @@ fn mark_all<M: Segments>(
             overlap: search.first,
             lax: search.strictness.first,
         }),
-        Err(Stopped::Refused(refusal)) => Err(refusal),
-        Err(Stopped::ByTurn(never)) => match never {},
+        Err(stopped) => Err(stopped),
     }
 }

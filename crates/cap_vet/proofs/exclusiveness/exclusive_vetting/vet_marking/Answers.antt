@@ -8,8 +8,8 @@ use Rattle.cap_vet.proofs.exclusiveness.exclusive_vetting.vet_marking.Goals as g
 pub returns-in-None-clause-ok : goal.returns-in-None-clause-ok
 returns-in-None-clause-ok g c =
     let w = c.in-Ok.ensures.ok in (
-      met_at_end c.args.demands _ (words_of c.args.limits) _ _ _ c.limits_under-limits.ensures.words
-          c.limits_under-limits.ensures.depth w.seen w.ahead _ w.walks w.known.1 c.in-None.ensures.none,
+      met_at_end c.args.demands _ (words_of c.args.limits) _ _ _ c.limits_under-within.ensures.words
+          c.limits_under-within.ensures.depth w.seen w.ahead _ w.walks w.known.1 c.in-None.ensures.none,
       ends_marking _ w.seen w.ahead _ w.walks w.known.0,
     )
 
@@ -22,4 +22,4 @@ returns-in-Some-clause-err g c =
 pub invariant_of-result : goal.invariant_of-result
 invariant_of-result g c =
     let w = c.in-Ok.ensures.ok in
-    record { accepted = ∣ vetted_within _ c.limits_under-limits.result _ (accepted_at_end w.seen w.ahead w.walks) ∣₁ }
+    record { accepted = ∣ vetted_within _ c.limits_under-within.result _ (accepted_at_end w.seen w.ahead w.walks) ∣₁ }
