@@ -529,9 +529,9 @@ size_t capvet_canonical_bound(size_t length) CAPVET_NOEXCEPT;
  * all default lose their words in them and are still charged. With the same limits, and `message_words` at
  * least the words of these bytes, the answer is CAPVET_OK.
  *
- * Cost: one walk that compares, at most about twice capvet_vet. If the message differs from its form, a second
- * walk may follow, which only checks: after an early difference, for an amplified message, and where a far
- * pointer of an unusual kind comes later. */
+ * Cost: one walk that compares, at most about twice capvet_vet. If the message differs from its form early, a
+ * second walk follows, which only checks. After a later difference it follows only if the message is amplified
+ * or a far pointer of an unusual kind comes. */
 CAPVET_CALL((3, 4))
 capvet_answer capvet_is_canonical(const uint8_t *bytes, size_t length, const capvet_limits *limits,
                                   capvet_report *report) CAPVET_NOEXCEPT;

@@ -4,7 +4,7 @@ use Rattle.cap_spec.specs.Denoting.{places}
 use Rattle.cap_spec.proofs.Lemmas.{disjoint_of_none, none_of_disjoint, lead_word}
 use Rattle.cap_spec.proofs.ProofNames.{List, Option, [], arith, false, inl, inr, length, refl, true, ℕ, ◌++◌, ◌∷◌}
 use Rattle.cap_spec.proofs.ProofNames.{◌≡◌, ∥∥₁_elim, props, IsDisjoint, IsFirstOverlap, Occupies, pads_of, Costs}
-use Rattle.cap_spec.proofs.ProofNames.{OnOk, Result, Some, extent, rules}
+use Rattle.cap_spec.proofs.ProofNames.{Some, extent, rules}
 use Rattle.cap_vet.specs.VetNames.{Step, Conflicts, IsMarked, MarksAll, Ahead, HasWalked, IsLookedAt, Report}
 use Rattle.cap_vet.specs.OverlapSteps.{KnowsMarks, KnowsOverlap}
 use Rattle.cap_vet.specs.Overlapping.{EndsMarking, OverlapsFirst}
@@ -56,10 +56,6 @@ still_overlaps m seen more marks first e k = search rules
 pub kept_overlaps : (m : List (List ℕ)) (seen : List (List Step)) (marks : Marks) (first : Option Overlap) (o : Overlap) → first ≡ Some o
     → KnowsMarks m seen marks first → OverlapsFirst m o
 kept_overlaps m seen marks first o e k = search rules
-
--- a walk that goes on knows both
-pub both_known : {X E A : Type 0} (B : Type 0) (r : Result X E) → A → OnOk r B → OnOk r (A × B)
-both_known B r a b = search rules
 
 -- the end
 pub ends_marking : (m : List (List ℕ)) {words depth : ℕ} {report : Report} (seen : List (List Step)) (ahead : List Ahead) (first : Option Overlap)
