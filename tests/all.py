@@ -6,6 +6,7 @@
 With --edits the tests in Rattle are proved safe too, and the prover has to refuse each must-fail edit. Then --anew takes nothing
 from earlier runs on this machine. With --full the scripts make all of their cases. They run
 after the proofs, side by side, one for each core. What each of them writes is shown at its end, in the order of SCRIPTS.
+With --edits they then run once more as on a new machine (bare.py).
 Each step ends with a line 'N passed, M failed'. With --scripts nothing is proved, and of the scripts only these files run.
 A table of the steps follows them, with the time that each took and the processor time of all its processes. After the table
 comes what was not tested, with the packages that it needs. The last line sums up the cases, and the status is 1 where one
@@ -121,6 +122,11 @@ def run_apart(name, words, skips):
     return step
 
 
+def show(text):
+    """Shows what a script prints as it comes."""
+    print(text, end="", flush=True)
+
+
 def show_untested(steps):
     """Prints what the steps didn't test, and the command that installs what they lacked."""
     untested = {line: absent for step in steps for line, absent in step.untested.items()}
@@ -155,13 +161,14 @@ def main(words):
     scripts = [it for it in SCRIPTS if asked.scripts is None or it[1][0] in asked.scripts]
     if asked.scripts is None:
         steps.append(run("proofs and must-fail edits" if asked.edits else "proofs",
-                         ["prove.py", *["--edits"] * asked.edits, *["--anew"] * asked.anew], asked.skip,
-                         lambda line: print(line, end="", flush=True)))
+                         ["prove.py", *["--edits"] * asked.edits, *["--anew"] * asked.anew], asked.skip, show))
     if not any(step.failed for step in steps):
         with ThreadPoolExecutor(len(os.sched_getaffinity(0))) as cores:
             for step in cores.map(lambda script: run_apart(*script, asked.skip), scripts):
                 print(step.text, end="", flush=True)
                 steps.append(step)
+        if asked.edits:
+            steps.append(run("the scripts on a new machine", ["bare.py"], asked.skip, show))
     print("\n" + "\n".join(step.line for step in steps))
     print(f"all of it took {minutes(time.monotonic() - begin)}")
     show_untested(steps)

@@ -111,9 +111,15 @@ def linked(folder, compiler, archive):
            status != 0 and "undefined reference" in text and "capvet_abi_1" in text, text)
 
 
-def named(folder, compiler, archive, program):
+def standards(compiler):
+    """The standards by which a compiler is asked. (of Debian's packages that of gcc compiles no C++, and that of clang does)"""
+    is_without = missing(f"the header in C++ by {compiler}", {"gcc": "g++", "cc": "c++"}.get(compiler, compiler))
+    return ("c99", "c11") if is_without else ("c99", "c11", "c++98", "c++11", "c++17")
+
+
+def named(folder, compiler, known, archive, program):
     """The names of the answers are those of the code, in C and C++, and the program's words are among them."""
-    for standard in ("c99", "c++98", "c++17"):
+    for standard in known:
         built = compiled(folder, "names", compiler, standard, archive)
         if built is not None:
             text, status = run([built])
@@ -433,9 +439,9 @@ def compare_texts(texts, watched, program):
 def test_messages(folder, compilers, archive, program):
     """The header, known buffers, and the lines and copies of many messages."""
     for compiler in compilers:
-        for standard in ("c99", "c11", "c++98", "c++11", "c++17"):
+        known = standards(compiler)
+        for standard in known:
             header_alone(folder, compiler, standard)
-    for compiler in compilers:
         built = compiled(folder, "calls", compiler, "c99", archive)
         if built is not None:
             clean(f"calls, by {compiler}", built)
@@ -443,7 +449,7 @@ def test_messages(folder, compilers, archive, program):
                 clean(f"calls, by {compiler}, under valgrind", *VALGRIND, "--leak-check=full", built)
         takes_no_memory(folder, compiler, archive)
         linked(folder, compiler, archive)
-        named(folder, compiler, archive, program)
+        named(folder, compiler, known, archive, program)
         checked = compiled(folder, "calls", compiler, "c11", archive, *CHECKS)
         if checked is not None:
             clean(f"calls, by {compiler}, with its checks", checked)

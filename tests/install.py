@@ -1,10 +1,10 @@
 #!/usr/bin/env python3
 """Installs the built program and library into scratch folders as their users do, and compares what is there.
 
-`make install` puts each file where PREFIX and DESTDIR say, with its mode, and `make uninstall` removes just these. Where it can't
-put them there, it says so before anything is proved, and so does each target that needs `rt` where there is none. `make run` shows
-what is built. The manual pages are read without a warning. The page of the program has the commands and options of help, and shows
-what the program writes. The page of the library has each call of the header. Bash completes each place of a command line.
+`make install` puts each file where PREFIX and DESTDIR say, with its mode, and `make uninstall` removes just these. If it can't put
+them there, it says so before anything is proved. So does each target that needs `rt` if there is none. `make run` shows what is built.
+The manual pages are read without a warning. The page of the program has the commands and options of help, and shows what the program
+writes. The page of the library has each call of the header. Bash completes each place of a command line.
 
     install.py [PROGRAM [ARCHIVE]]
 

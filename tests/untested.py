@@ -4,7 +4,8 @@
     untested.py [PROGRAM]
 
 A tool is missing because it isn't in the only folder of the path. The names that the scripts ask for have to be names of
-needs.py. The last line is 'N passed, M failed', and the status is 1 if a case failed.
+needs.py. Tools that this machine lacks anyway are named to `--skip`. The last line is 'N passed, M failed', and the status is 1 if a
+case failed.
 """
 import ast
 import os
@@ -17,8 +18,9 @@ import all as steps
 import needs
 from harness import TOP, compare, ended, run
 
-HIDDEN = "man"
-LINE = needs.line("that the manual pages are found and read", HIDDEN)
+# The tool that is hidden, and what install.py doesn't test without it. (Debian is never without bash)
+HIDDEN, WHAT = ("man", "that the manual pages are found and read") if needs.has("man") else ("bash", "what bash completes")
+LINE = needs.line(WHAT, HIDDEN)
 # What a script prints that the gate refuses, and the reason that it gives.
 REFUSED = (("print('0 passed, 0 failed')", "{} tested nothing"),
            ("print('not tested: a part\\n1 passed, 0 failed')", "not tested: a part"),
@@ -28,33 +30,26 @@ REFUSED = (("print('0 passed, 0 failed')", "{} tested nothing"),
            ("print('1 passed, 0 failed'); raise SystemExit(1)", "{} ended with status 1"))
 
 
-def without(tool, folder):
-    """The environment of a machine that has all commands of this one but one."""
-    for part in reversed(os.environ["PATH"].split(":")):
-        for file in Path(part).glob("*") if part else ():
-            if file.name != tool:
-                (folder / file.name).unlink(missing_ok=True)
-                (folder / file.name).symlink_to(file)
-    return {**os.environ, "PATH": str(folder)}
-
-
 def gate(words, environment):
-    """The status of all.py over install.py alone, with the line of the failure, and with what was not tested."""
+    """The status of all.py over install.py alone, with the line of the failure, and with what was not tested and its package."""
     text, status = run([sys.executable, TOP / "tests/all.py", "--scripts", "install.py", *words], env=environment)
-    return status, f"FAILED: {LINE}\n" in text, f"what was not tested:\n{LINE}\nto test it on Debian 12: apt-get install man-db\n" in text
+    lines, _, remedy = text.partition("what was not tested:\n")[2].partition("to test it on Debian 12: apt-get install ")
+    is_named = LINE in lines.splitlines() and needs.NEEDS[HIDDEN] in remedy.partition("\n")[0].split()
+    return status, f"FAILED: {LINE}\n" in text, is_named
 
 
 def of_a_tool(folder):
     """A missing tool is a failure where no part may be left out, and else a line at the end."""
-    if needs.missing("a script that lacks a tool", HIDDEN):
-        return
-    environment = without(HIDDEN, folder)
-    for words, expected in (((), (0, False, True)), (("--skip", ""), (1, True, True)), (("--skip", "go"), (1, True, True)),
-                          (("--skip", f"go {HIDDEN}"), (0, False, True))):
+    environment = {**os.environ, "PATH": needs.path_without(HIDDEN, folder)}
+    absent = " ".join(name for name in needs.NEEDS if not needs.has(name))
+    for skips, expected in ((None, (0, False, True)), (absent, (1, True, True)), (f"{absent} go", (1, True, True)),
+                            (f"{absent} {HIDDEN}", (0, False, True))):
+        words = () if skips is None else ("--skip", skips)
         compare(f"all.py {words} without {HIDDEN}", expected, gate(words, environment))
-    compare("all.py --skip '', with all tools", (0, False, False), gate(("--skip", ""), os.environ))
+    compare(f"all.py --skip '{absent}', with the tools of this machine", (0, False, False), gate(("--skip", absent), os.environ))
     text, status = run([sys.executable, TOP / "tests/needs.py"], env=environment)
-    compare("needs.py names the package", (True, 0), ("man-db" in text.splitlines(), status))
+    unpackaged = any(not needs.has(name) for name, packages in needs.NEEDS.items() if not packages)
+    compare("needs.py names the package", (True, unpackaged), (needs.NEEDS[HIDDEN] in text.splitlines(), status))
     text, status = run([sys.executable, TOP / "tests/all.py", "--skip", "nothing"])
     compare("all.py --skip of a name that is unknown", (True, 2), (text.endswith("unknown: nothing\n"), status))
 
