@@ -40,6 +40,9 @@ def stage(root, machine, guard, wheel):
         with zipfile.ZipFile(wheel) as archive:
             names = [name for name in archive.namelist() if not name.endswith("/RECORD")]
             archive.extractall(root / "usr/lib/python3/dist-packages", names)
+        # (what runs needs only the part of cffi that python3-cffi-backend has, of which pip knows nothing)
+        metadata = next(root.glob("usr/lib/python3/dist-packages/*.dist-info/METADATA"))
+        metadata.write_text(re.sub(r"^Requires-Dist: cffi.*\n", "", metadata.read_text(), flags=re.M))
     crates(root / CRATES)
     copy_tracked(root / GOCODE, "bindings/go", below="bindings/go")
     if (BUILT / "inspector.html").is_file():

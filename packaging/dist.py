@@ -7,7 +7,8 @@ the wheels and the source distribution for Python, the package for JavaScript, a
 It runs in a clone whose files are all committed, after `make build`. It builds the targets of targets.py and the guard if their
 tools are there, and names what it leaves out. The kit of `rt` links the shared libraries, and has the licences of what is linked
 in. No file in dist/ says where it was made, or when: times are that of the commit, or SOURCE_DATE_EPOCH. SHA256SUMS has the sums of
-all packages. BUILT has those of the programs and the libraries in them, with the commit and the line of the toolchain.
+all other files. BUILT has those of the programs and the libraries in them, with the commit and the line of the toolchain. README.md
+is the page on installation.
 """
 import os
 import shutil
@@ -23,6 +24,7 @@ import linux
 import pages
 import targets
 import wheels
+from licences import GOCODE
 from packing import BUILT, DIST, HERE, MACHINES, digest, run, shared, version, when
 
 
@@ -36,9 +38,10 @@ def can_build(names):
 
 def can_build_guard():
     """Whether Go and its libraries are there, and the licences of these."""
-    lacking = [it for it, place in (("golang-go", shutil.which("go")), ("dpkg", shutil.which("dpkg")),
-               ("golang-github-prometheus-client-golang-dev", Path("/usr/share/gocode/src/github.com/prometheus/client_golang").is_dir()))
-               if not place]
+    libraries = {"golang-github-prometheus-client-golang-dev": "prometheus/client_golang",
+                 "golang-github-coreos-go-systemd-dev": "coreos/go-systemd", "golang-github-pires-go-proxyproto-dev": "pires/go-proxyproto"}
+    lacking = [it for it, tool in (("golang-go", "go"), ("dpkg", "dpkg")) if not shutil.which(tool)]
+    lacking += [it for it, place in libraries.items() if not (GOCODE / "src/github.com" / place).is_dir()]
     if lacking:
         print(f"dist: capvet-guard isn't packed: install {' '.join(lacking)}")
     return not lacking
@@ -98,7 +101,8 @@ def main(words):
     with_guard = "--without-guard" not in words and can_build_guard()
     made_guards = {it: (guards.guard(it, False), guards.guard(it, True)) for it in machines if with_guard}
     pack(machines, made_guards, when())
-    packed = sorted(path for path in DIST.rglob("*") if path.is_file() and path.name != "BUILT")
+    pages.readme(DIST)
+    packed = sorted(path for path in DIST.rglob("*") if path.is_file())
     (DIST / "SHA256SUMS").write_text("".join(f"{digest(path)}  {path.relative_to(DIST)}\n" for path in packed))
     print((DIST / "SHA256SUMS").read_text(), end="")
 

@@ -6,7 +6,7 @@ import os
 
 from packing import BUILT, TOP, run, tracked
 
-PLAIN = "-buildmode=pie"
+PLAIN = '-buildmode=pie -ldflags "-s -w -buildid= -linkmode external -extldflags=-Wl,-z,now"'
 STATIC = '-tags netgo,osusergo -ldflags "-s -w -buildid= -linkmode external -extldflags -static"'
 SOURCES = ("guard", "bindings/go", "include", "Makefile", "capvet.pc.in", "packaging/guards.py")
 

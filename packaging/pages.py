@@ -4,7 +4,6 @@ The pages are written for a checkout. What is only true there is between `<!-- s
 has it. What only packages have is in a comment, from a line `<!-- packages` to a line `-->`. SAID has the words that differ between
 a checkout, the archive and Debian. A link to a file that isn't packed becomes plain text.
 """
-import functools
 import re
 import shutil
 import sys
@@ -14,6 +13,8 @@ from packing import HERE, TOP, copy_tracked, version
 # The pages for users, and those that only the archive has. (A page that isn't there yet is left out)
 PAGES = ("install", "guide", "service", "in-process", "output", "format", "c", "go", "python", "scale", "proofs", "glossary")
 OF_ARCHIVE = ("js",)
+# The version of crates that Debian's examples ask for.
+MINOR = version().rpartition(".")[0]
 # The words of a checkout, and those of a package in their place. (The page on installation is about all of them)
 SAID = {
     "archive": (
@@ -32,6 +33,9 @@ SAID = {
         ("venv/bin/python", "python3"),
         ("../bindings/go", "/usr/share/gocode/src/capvet.invalid/capvet"),
         ("man ./docs/capvet-guard.1", "man capvet-guard"),
+        ("in `bindings/rust-capnp`", "in the package `librust-capvet-capnp-dev`"),
+        ("in `bindings/rust-capnp-rpc`", "in the package `librust-capvet-capnp-rpc-dev`"),
+        ("by `capvet = { path = \"capvet/bindings/rust\" }`", f"by `capvet = \"{MINOR}\"` and [Debian's folder of crates](../README.md)"),
     ),
 }
 # The same for the page on JavaScript.
@@ -39,12 +43,17 @@ SAID_OF_JS = (
     ("The package in `bindings/js` calls", "The package calls"),
     ("`build.mjs` puts the package into a folder", "npm puts the package into a folder"),
     ("make build TARGET=wasm\nnode bindings/js/build.mjs build/capvet.wasm hello/node_modules/capvet\n",
-     "mkdir hello\nnpm install --silent --offline --prefix hello js/capvet-@version@.tgz\n"),
+     "mkdir hello\nnpm install --silent --offline --prefix hello ./js/capvet-@version@.tgz\n"),
     (" `tests/js.py` prints them. With `--idle` it fails if a call takes more than three times the time from C, or seven times for the list.", ""),
 )
-# Where the examples find the crate and the Go package on Debian.
-PLACES = (("../../bindings/rust\"", f"/usr/share/cargo/registry/capvet-{version()}\""),
-          ("../../bindings/go", "/usr/share/gocode/src/capvet.invalid/capvet"))
+# A crate of the checkout as an example names it. On Debian it has a version, by which `cargo` finds it in Debian's folder of crates.
+CRATE = re.compile(r'\{ path = "[./]*/bindings/[\w-]*" \}')
+CARGO = """\
+[source.crates-io]
+replace-with = "debian"
+[source.debian]
+directory = "/usr/share/cargo/registry"
+"""
 BLOCK = re.compile(r"^```\w*\n.*?^```\n", re.M | re.S)
 
 
@@ -76,6 +85,23 @@ def linked(folder, page):
     page.write_text("".join(part if part.startswith("```") else re.sub(r"(?<!!)\[([^\]]*)\]\(([^)\s]+)\)", of, part) for part in parts))
 
 
+def examples_of_debian(folder):
+    """Lets the examples take the crates and the Go package from where Debian has them."""
+    for file in folder.glob("rust/**/Cargo.toml"):
+        file.write_text(CRATE.sub(f'"{MINOR}"', file.read_text()))
+    (folder / "rust/.cargo").mkdir()
+    (folder / "rust/.cargo/config.toml").write_text(CARGO)
+    go = folder / "go/go.mod"
+    go.write_text(go.read_text().replace("../../bindings/go", "/usr/share/gocode/src/capvet.invalid/capvet"))
+
+
+def readme(folder):
+    """Writes the page on installation as the README of a folder with packages. Its links to other pages are plain text there."""
+    page = folder / "README.md"
+    page.write_text(said((TOP / "docs/install.md").read_text(), ()))
+    linked(folder, page)
+
+
 def write(folder, kind, values):
     """Writes the pages and examples of a package below a folder. `values` are those of its README."""
     values = {"version": version()} | values
@@ -89,8 +115,8 @@ def write(folder, kind, values):
             text = said(source.read_text(), pairs)
             page.write_text(re.sub(r"@(version|machine|processor)@", lambda word: values[word[1]], text))
     copy_tracked(folder, "examples")
-    for file in (*folder.glob("examples/**/Cargo.toml"), *folder.glob("examples/**/go.mod")) if kind == "debian" else ():
-        file.write_text(functools.reduce(lambda text, pair: text.replace(*pair), PLACES, file.read_text()))
+    if kind == "debian":
+        examples_of_debian(folder / "examples")
     for page in (page for page in sources if page.is_file()):
         for picture in re.findall(r"!\[[^\]]*\]\(([^)]+)\)", page.read_text()):
             shutil.copy(TOP / page.parent.relative_to(folder) / picture, page.parent / picture)

@@ -30,7 +30,7 @@ HOST, LOWERING = TOP / "packaging/host.c", TOP / "packaging/lowering.py"
 ARM, WASM = "aarch64-unknown-linux-gnu", "wasm64-unknown-unknown"
 # For each target what it makes, and the tools that it needs with their Debian packages.
 TARGETS = {
-    "static": (("x86_64/capvet-static",), {"gcc": "gcc"}),
+    "static": (("x86_64/capvet-static",), {"gcc": "gcc libc6-dev"}),
     "aarch64": (("aarch64/capvet", "aarch64/capvet-static", "aarch64/libcapvet.a"),
                 {"aarch64-linux-gnu-gcc": "gcc-aarch64-linux-gnu libc6-dev-arm64-cross"}),
     "wasm": (("capvet.wasm",), {"wasm-opt": "binaryen"}),
@@ -107,9 +107,19 @@ def wasm(root, scratch):
     return not subprocess.run(words).returncode and lower(module, scratch, BUILT / "capvet.wasm")
 
 
+def is_there(tool):
+    """Whether this machine has a tool. Of a compiler it also needs the headers and the static C library, which are packages of
+    their own."""
+    if not shutil.which(tool) or not tool.endswith("gcc"):
+        return shutil.which(tool) is not None
+    with tempfile.TemporaryDirectory() as folder:
+        words, text = [tool, "-static", "-x", "c", "-", "-o", f"{folder}/empty"], "#include <stdlib.h>\nint main(void) { exit(0); }\n"
+        return subprocess.run(words, input=text, text=True, capture_output=True).returncode == 0
+
+
 def lacking(name):
-    """The tools that a target needs and this machine has not, each with its Debian package."""
-    return {tool: package for tool, package in TARGETS[name][1].items() if not shutil.which(tool)}
+    """The tools that a target needs and this machine has not, each with its Debian packages."""
+    return {tool: packages for tool, packages in TARGETS[name][1].items() if not is_there(tool)}
 
 
 def stamp():

@@ -50,7 +50,7 @@ def wheel(machine, python, epoch):
         settings.write_text(f"[bdist_wheel]\nplat_name = {tag}\n")
         # (debugging information would name the folder)
         environment = {**os.environ, "SOURCE_DATE_EPOCH": str(epoch), "DIST_EXTRA_CONFIG": str(settings), "CC": machine.compiler,
-                       "LDSHARED": f"{machine.compiler} -shared -s", "CFLAGS": f"-g0 -I{headers(Path(scratch), python, machine)}"}
+                       "LDSHARED": f"{machine.compiler} -shared -s -Wl,-z,relro,-z,now", "CFLAGS": f"-g0 -I{headers(Path(scratch), python, machine)}"}
         run("make", "-s", "wheel", f"wheeldir={DIST}", f"BUILT_ARCHIVE={(machine.folder / 'libcapvet.a').relative_to(TOP)}", env=environment)
     made = DIST / f"capvet-{version()}-cp39-abi3-{tag}.whl"
     check(made)

@@ -6,7 +6,6 @@ import os
 import re
 import subprocess
 import sys
-from pathlib import Path
 
 import install
 from amount import IS_FULL
@@ -99,10 +98,24 @@ def installed(dist, folder, built):
     compare("the package's program runs", (VETTED, 0), run([root / "usr/bin/capvet", "vet", TOP / "examples/contacts.bin"]))
     crate_over(root, folder)
     for page in (root / "usr/share/doc/capvet").rglob("*.md"):
-        if page.name in ("README.md", "c.md", "go.md", "scale.md"):
+        # (the page on installation is about the other packages too)
+        if page.name != "install.md":
             compare(f"{page.name} names no file of a checkout", [], re.findall(r"bindings/\w+|\$HOME/x", page.read_text()))
     compare("dpkg -P", 0, run([*dpkg, "-P", *(fields(it)["Package"] for it in packages)])[1])
     compare("files left", before, {name for name in install.files_of(root) if not name.startswith("var/")})
+
+
+def made(dist, folder):
+    """What gcc links for the packages is bound when it is loaded, and the package for Python needs no other one that pip knows of."""
+    root = folder / "unpacked-debs"
+    for package in dist.glob("apt/*_amd64.deb"):
+        run(["dpkg-deb", "-x", package, root])
+    if not missing("that what the packages have is bound when it is loaded", "readelf"):
+        for file in (*root.glob("usr/bin/capvet-guard"), *root.glob("usr/lib/python3/dist-packages/**/*.so"), root / LIBRARIES / "libcapvet.so.1"):
+            compare(f"{file.name} is bound when it is loaded", True, "BIND_NOW" in run(["readelf", "-dW", file])[0])
+    needed = [line for file in root.glob("usr/lib/python3/dist-packages/*/METADATA") for line in file.read_text().splitlines()
+              if line.startswith("Requires-Dist: ")]
+    compare("what the package for Python needs by pip", [], needed)
 
 
 def check(dist, folder, built):
@@ -111,6 +124,7 @@ def check(dist, folder, built):
         return
     listed(dist)
     symbols(dist)
+    made(dist, folder)
     installed(dist, folder, built)
     if not missing("what lintian finds", "lintian"):
         packages = [it for it in sorted(dist.glob("apt/*.deb")) if IS_FULL or not it.name.endswith("_arm64.deb")]

@@ -27,11 +27,12 @@ import reading
 import roots
 from amount import IS_FULL
 from harness import ARCHIVE, PROGRAM, TOP, compare, ended, run
-from needs import missing
+from needs import has, missing, path_without
 
 sys.path.insert(0, str(TOP / "packaging"))
 import packing  # noqa: E402 (it is in the folder that the line above names)
 import targets  # noqa: E402
+import wheels as made_wheels  # noqa: E402
 
 COMMITTED = {f"GIT_{who}_{what}": value for who in ("AUTHOR", "COMMITTER")
              for what, value in (("NAME", "a"), ("EMAIL", "a@b"), ("DATE", "1700000000 +0000"))}
@@ -43,7 +44,9 @@ message 3: accepted charge 78 depth 7 pointers 21 caps 0
 """
 # Words of maintainers, which are in no page of a package.
 MAINTAINERS = re.compile(r"crates/|tests/|\brt \w|`?make (?:build|install|test|gate|dist|wheel|guard|uninstall|bench|allocations|times|run)\b")
-PAGES = ("guide", "service", "output", "c", "go", "python")
+# The pages of the archive, each with the tools that its commands need.
+PAGES = {"guide": (), "service": (), "output": (), "c": ("cc", "pkg-config"), "go": ("go", "cc", "pkg-config"),
+         "python": ("wheel", "jq", "esbuild", "wasm-opt"), "js": ("wasm-opt", "node", "npm")}
 
 
 def sum_of(path):
@@ -56,8 +59,8 @@ def has_targets():
     return not names or targets.main(names) == 0
 
 
-def clone(folder, with_guards=True):
-    """A repository of the files of this one, with what is built, and one commit."""
+def clone(folder, made, with_guards=False):
+    """A repository of the files of this one, with what is built of these targets too, and one commit."""
     names = subprocess.run(["git", "ls-files", "-z", "-co", "--exclude-standard"], cwd=TOP, check=True, stdout=subprocess.PIPE,
                            text=True).stdout.split("\0")[:-1]
     for name in names:
@@ -66,8 +69,7 @@ def clone(folder, with_guards=True):
             shutil.copy(TOP / name, folder / name)
     for command in (["init", "-q"], ["add", "-A"], ["-c", "commit.gpgsign=false", "commit", "-qm", "A release"]):
         subprocess.run(["git", *command], cwd=folder, check=True, env={**os.environ, **COMMITTED})
-    built = ["capvet", "libcapvet.a", "inspector.html", *(f"{name}.of" for name in targets.TARGETS)]
-    built += [it for made, _ in targets.TARGETS.values() for it in made]
+    built = ["capvet", "libcapvet.a", *(it for name in made for it in (*targets.TARGETS[name][0], f"{name}.of"))]
     built += [f"{machine.name}/capvet-guard{end}" for machine in packing.MACHINES for end in ("", ".of", "-static", "-static.of") if with_guards]
     for name in built:
         (folder / "build" / name).parent.mkdir(parents=True, exist_ok=True)
@@ -87,12 +89,38 @@ def packed(folder):
     return {str(path.relative_to(dist)): sum_of(path) for path in sorted(dist.rglob("*")) if path.is_file()}
 
 
+def machines():
+    """The machines that this one can pack for."""
+    return [it for it in packing.MACHINES if not any(targets.lacking(name) for name in it.targets)]
+
+
+def packs_guard():
+    """Whether the guard is packed."""
+    return IS_FULL and all(has(name) for name in ("go", "dpkg", "go-prometheus", "go-proxyproto", "go-systemd"))
+
+
+def expected():
+    """The files of dist/ that the tools of this machine make."""
+    version, debian = packing.version(), packing.debian_version()
+    has_wheel, has_module = made_wheels.interpreter() is not None, has("wasm-opt")
+    common = ["capvet-doc", "golang-capvet-dev", *["capvet-inspector"] * (has_module and has("esbuild"))]
+    own = ["capvet", "libcapvet1", "libcapvet-dev", "librust-capvet-dev", "librust-capvet-capnp-dev", "librust-capvet-capnp-rpc-dev",
+           *["python3-capvet"] * has_wheel, *["capvet-guard"] * packs_guard()]
+    names = ["BUILT", "README.md", "SHA256SUMS", "apt/Packages", "apt/Packages.gz", "apt/Release", *(f"apt/{name}_{debian}_all.deb" for name in common)]
+    for machine in machines():
+        names += [f"capvet-{version}-{machine.name}-linux.tar.gz", *(f"apt/{name}_{debian}_{machine.debian}.deb" for name in own)]
+        names += [f"capvet-{version}-cp39-abi3-manylinux_2_17_{machine.name}.whl"] * has_wheel
+    names += [f"capvet-{version}.tar.gz"] * has_wheel + [f"capvet-{version}.wasm"] * has_module
+    names += [f"capvet-{version}.tgz"] * (has_module and has("node"))
+    return sorted([*names, *[f"capvet-inspector-{version}.html"] * (has_module and has("esbuild"))])
+
+
 def summed(dist):
     """SHA256SUMS has all packages, and BUILT the sums of what was built."""
     compare("sha256sum -c", 0, run(["sha256sum", "-c", "--quiet", "SHA256SUMS"], cwd=dist)[1])
     named = {line.split("  ")[1] for line in (dist / "SHA256SUMS").read_text().splitlines()}
     there = {str(path.relative_to(dist)) for path in dist.rglob("*") if path.is_file()}
-    compare("packages of SHA256SUMS", there - {"SHA256SUMS", "BUILT"}, named)
+    compare("files of SHA256SUMS", there - {"SHA256SUMS"}, named)
     lines = (dist / "BUILT").read_text().splitlines()
     commit = run(["git", "rev-parse", "HEAD"], cwd=dist)[0].strip()
     toolchain = run(["rt", "version"])[0].strip()
@@ -105,14 +133,17 @@ def summed(dist):
 
 def without_rt(folder):
     """The environment of a machine that has no `rt`."""
-    kept = [part for part in os.environ["PATH"].split(":") if part and not (Path(part) / "rt").exists()]
+    place = folder / "path-without-rt"
+    if not place.exists():
+        place.mkdir()
+        path_without("rt", place)
     environment = {name: value for name, value in os.environ.items() if not name.startswith(("CAPVET_", "PKG_CONFIG", "CARGO_TARGET"))}
-    environment |= {"PATH": ":".join(kept), "CARGO_TARGET_DIR": str(folder / "target"), "LC_ALL": "C.UTF-8", "HOME": str(folder),
+    environment |= {"PATH": str(place), "CARGO_TARGET_DIR": str(folder / "target"), "LC_ALL": "C.UTF-8", "HOME": str(folder),
                     "CARGO_HOME": os.environ.get("CARGO_HOME", str(Path.home() / ".cargo")), "GOPROXY": "off", "GOFLAGS": "", "GOWORK": "off",
                     "GOCACHE": os.environ.get("GOCACHE", str(Path.home() / ".cache/go-build")), "PIP_NO_INDEX": "1",
                     "RUSTUP_HOME": os.environ.get("RUSTUP_HOME", str(Path.home() / ".rustup"))}
     compare("rt is not on the path", None, shutil.which("rt", path=environment["PATH"]))
-    return environment
+    return environment | {"npm_config_cache": str(folder / "npm"), "npm_config_update_notifier": "false"}
 
 
 def contents(dist, folder, machine, built):
@@ -121,7 +152,7 @@ def contents(dist, folder, machine, built):
     subprocess.run(["tar", "xf", name, "-C", folder], check=True)
     root = folder / name.name.removesuffix(".tar.gz")
     places = {"bin/capvet": "capvet-static", "lib/libcapvet.a": "libcapvet.a", "lib/libcapvet.so.1": "libcapvet.so.1"}
-    places |= {"bin/capvet-guard": "capvet-guard-static"} if IS_FULL else {}
+    places |= {"bin/capvet-guard": "capvet-guard-static"} if packs_guard() else {}
     for place, what in places.items():
         compare(f"{place} of the archive for {machine} is what was built", built[f"{machine}/{what}"], sum_of(root / place))
     return root
@@ -157,9 +188,9 @@ def unpacked(dist, folder, built):
 def pages(root, folder):
     """The pages of the archive: their links lead to files in it, they are for users, and their commands run at its top."""
     lead_to_a_place(root, "the archive")
-    environment = without_rt(folder) | {"PATH": f"{root}/bin:{os.environ['PATH']}", "PKG_CONFIG_PATH": str(root / "lib/pkgconfig")}
-    for name in PAGES:
-        tools = {"c": ("cc", "pkg-config"), "go": ("go", "cc", "pkg-config"), "python": ("wheel", "jq")}.get(name, ())
+    environment = without_rt(folder) | {"PKG_CONFIG_PATH": str(root / "lib/pkgconfig")}
+    environment["PATH"] = f"{root}/bin:{environment['PATH']}"
+    for name, tools in PAGES.items():
         if missing(f"the commands of {name}.md in the archive", *tools):
             continue
         page = (root / f"docs/{name}.md").read_text()
@@ -184,25 +215,15 @@ def lead_to_a_place(root, whose):
 
 
 def installs(dist, folder):
-    """The commands of docs/install.md that need no rights: the archive, Python, Rust and Go."""
-    if missing("the commands of install.md", "wheel", "cargo", "go", "cc", "pkg-config"):
-        return
-    page = (TOP / "docs/install.md").read_text()
-    blocks = [block for language, block in reading.BLOCK.findall(page) if language == "sh" and not any(it in block for it in reading.UNTRIED)]
-    compare("install.md has five blocks of commands", 5, len(blocks))
-    sums, anywhere, python, rust, go = blocks
+    """The commands of docs/install.md that need no rights, in a copy of dist/ and in a new folder for each language."""
     place = folder / "received"
-    shutil.copytree(dist, place)
-    # (without a network, the environment has Debian's `cffi`)
-    python = python.replace("-m venv venv", "-m venv --system-site-packages venv")
-    environment = without_rt(folder) | {"PATH": f"/usr/bin:{os.environ['PATH']}"}
-    compare("install.md: sums, any Linux, Python", (f"capvet {packing.version_text()}\n{packing.version()}\n", 0),
-            run(["sh", "-ec", sums + anywhere + python.replace("pip install", "pip install -q")], cwd=place, env=environment))
-    environment = without_rt(folder) | {"CAPVET": str(next(place.glob("*-x86_64-linux")))}
-    begins = {"rust": "cargo new --quiet --vcs none rust", "go": "mkdir go && cd go && go mod init hello 2> /dev/null"}
-    for name, commands in (("rust", rust), ("go", go)):
-        compare(f"a new folder for {name}", 0, run(["sh", "-ec", begins[name]], cwd=place, env=environment)[1])
-        compare(f"install.md: {name}", ("", 0), run(["sh", "-ec", commands], cwd=place / name, env=environment))
+    for name, (tools, before, block, expected) in roots.of_install((dist / "README.md").read_text()).items():
+        if not missing(f"the commands of install.md: {name}", *tools):
+            shutil.copytree(dist, place)
+            environment = without_rt(folder)
+            environment |= {"PATH": f"/usr/bin:{environment['PATH']}"} if name == "Python" else {}
+            compare(f"install.md: {name}", (expected, 0), run(["sh", "-ec", before + block], cwd=place, env=environment))
+            shutil.rmtree(place)
 
 
 def wheels(dist, folder):
@@ -210,7 +231,7 @@ def wheels(dist, folder):
     made = sorted(dist.glob("*.whl"))
     if missing("the wheels", "wheel"):
         return
-    compare("wheels", ["aarch64", "x86_64"], [re.search(r"manylinux_2_17_(\w+)\.whl", it.name)[1] for it in made])
+    compare("wheels", sorted(it.name for it in machines()), [re.search(r"manylinux_2_17_(\w+)\.whl", it.name)[1] for it in made])
     for file in made:
         with zipfile.ZipFile(file) as archive:
             archive.extractall(folder / file.stem)
@@ -303,16 +324,16 @@ def image(root, folder):
 
 
 def main():
-    if missing("the packages", "git", "make", "rt", "dpkg-deb", "dpkg-scanpackages"):
+    if missing("the packages", "git", "make", "rt", "gcc", "dpkg-deb", "dpkg-scanpackages"):
         return ended()
     compare("the builds for other machines", True, has_targets())
     with tempfile.TemporaryDirectory(ignore_cleanup_errors=True) as scratch:
         folder = Path(scratch)
         first, second = folder / "one", folder / "some/other place"
         first.mkdir()
-        clone(first)
+        clone(first, targets.TARGETS, with_guards=True)
         one, dist = packed(first), first / "dist"
-        compare("packages are made", True, len(one) >= 20)
+        compare("what is packed", expected(), sorted(one))
         built = summed(dist)
         root = unpacked(dist, folder, built)
         pages(root, folder)
@@ -328,7 +349,7 @@ def main():
         if IS_FULL:
             image(root, folder)
             second.mkdir(parents=True)
-            clone(second, with_guards=False)
+            clone(second, targets.TARGETS)
             compare("packages of two clones", one, packed(second))
             shutil.rmtree(second)
             roots.check(dist, folder)

@@ -25,6 +25,7 @@ import sys
 import tempfile
 from pathlib import Path
 
+import reading
 from amount import IS_FULL, IS_IDLE
 from harness import ARCHIVE, TOP, compare, count, ended, run
 from js_browser import in_chromium
@@ -234,28 +235,16 @@ def sized():
 
 def as_shown(folder):
     """The commands and programs of docs/js.md write what the page shows."""
-    page = (TOP / "docs/js.md").read_text()
-    first, *others = re.search(r"^```sh\n(.*?)^```$", page, re.M | re.S)[1].splitlines()
-    # (it is built already)
-    compare("the first command of docs/js.md", "make build TARGET=wasm", first)
+    # (the module is built already)
+    page = (TOP / "docs/js.md").read_text().replace("make build TARGET=wasm\n", "")
     top = folder / "top"
     for part in ("bindings/js", "examples"):
         shutil.copytree(TOP / part, top / part)
     (top / "build").mkdir()
     shutil.copy(MODULE, top / "build")
-    compare("the commands of docs/js.md", ("", 0), run(["sh", "-ec", "\n".join(others)], cwd=top))
-    blocks = re.findall(r"^```(\w*)\n(.*?)^```$", page, re.M | re.S)
-    hello, last = top / "hello", ""
-    for kind, block in blocks:
-        if kind == "js":
-            (hello / "vet.mjs").write_text(block)
-            last, status = run(["node", "vet.mjs", "../examples/contacts.bin"], cwd=hello)
-            compare(f"a program of docs/js.md: {block[:60]}", 0, status)
-        for command, expected in re.findall(r"^\$ (.*)\n((?:(?!\$ ).*\n)*)", block, re.M) if kind == "console" else ():
-            compare(f"docs/js.md: {command}", expected, run(["bash", "-c", command], cwd=hello)[0])
-        if kind == "" and not block.startswith("Content-Security-Policy"):
-            compare("what a program of docs/js.md prints", block, last)
-    compare("the last program of docs/js.md", "true\n", last)
+    text, _ = run(["bash", "-c", reading.script(page)], cwd=top)
+    reading.read("docs/js.md", page, text, compare)
+    compare("the last program of docs/js.md", True, f"\ntrue\n{reading.MARK} 0\n" in text)
 
 
 def main():

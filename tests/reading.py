@@ -2,14 +2,15 @@
 
 In order: a block of `sh` is run, and has to succeed. Of a block of `console` each line '$ COMMAND' is run, and has to print what the
 page shows after it. A program in C is saved under the name in its first line and built by `pkg-config`. One in Go is saved as
-`main.go`, and one in Python is run. All run in one shell, so that a `cd` or an `export` stays. Other blocks are left out, and so
-are those with words of UNTRIED.
+`main.go`, and one in Python is run. One in JavaScript is saved as `vet.mjs` and run over a sample, and has to print what a block
+without a language shows after it. All run in one shell, so that a `cd` or an `export` stays. Other blocks are left out, and so are
+those with words of UNTRIED.
 """
 import re
 
 BLOCK = re.compile(r"^```(\w*)\n(.*?)^```$", re.M | re.S)
-# Commands that wait for peers, need rights, or take packages from a network.
-UNTRIED = ("rpc-guard.sh 4000", "--listen", "nc -l", "-S \"$HOSTS\"", "sudo ", "docker ")
+# Commands that wait for peers, need rights, or take packages from a network, and a header for servers of pages.
+UNTRIED = ("rpc-guard.sh 4000", "--listen", "nc -l", "-S \"$HOSTS\"", "sudo ", "docker ", "Content-Security-Policy")
 # The first line of a program in C.
 PROGRAM = re.compile(r"/\* (\w+\.c): ")
 MARK = "@@ step"
@@ -30,7 +31,7 @@ def steps(page, python):
     programs = {name[1]: block for language, block in blocks if language == "c" and (name := PROGRAM.match(block))}
     for name, block in programs.items():
         yield f"save {name}", saved(name, block), ""
-    for language, block in blocks:
+    for (language, block), (after, shown) in zip(blocks, [*blocks[1:], ("", None)]):
         if language == "sh":
             yield block.strip(), block.strip(), None
         elif language == "console":
@@ -41,6 +42,9 @@ def steps(page, python):
             yield "save main.go", saved("main.go", block), ""
         elif language == "python" and block.startswith(("import ", "from ")):
             yield f"a program in Python: {block[:60]!r}", f"{python} - <<'END-OF-PROGRAM'\n{block}END-OF-PROGRAM", None
+        elif language == "js":
+            run = f"{saved('vet.mjs', block)}\nnode vet.mjs ../examples/contacts.bin"
+            yield f"a program in JavaScript: {block[:60]!r}", run, shown if after == "" else None
 
 
 def script(page, python="python3"):

@@ -1,18 +1,21 @@
-"""Installs the Debian packages by apt in fresh roots of Debian 12 and 13, uses them as an ordinary user, and removes them.
+"""Installs the packages in fresh roots of Debian 12 and 13, uses them as an ordinary user, and removes them.
 
 mmdebstrap makes a small root, with nothing but what Debian itself needs. Each session is a layer over it, in which a script runs with
-its own mounts. So nothing outside the folder of the test changes. In the first sessions each package is installed alone, used, and
-purged: then no file has its name. In the others the tools of developers are there, and all packages are installed. The commands of
-the installed README and pages are run word for word, and after the purge the root has the files of before. The last of these leaves
-out /usr/share/doc.
+its own mounts. So nothing outside the folder of the test changes. In the first sessions apt installs each Debian package alone. It is
+used, and purged: then no file has its name. In the others the tools of developers are there, and all packages are installed. The
+commands of the installed README and pages are run word for word, the examples in Rust are built, and after the purge the root has the
+files of before. One of these sessions leaves out /usr/share/doc. In the last one there are no Debian packages of capvet: the commands
+of docs/install.md for dist/ are run, and those of the README and the pages of the archive for Linux.
 
 A root for arm64 is run by qemu. So that the kernel starts qemu for its programs, and only there, the session has a user namespace
 with a list of such formats of its own (Linux 6.7 or later).
 """
+import functools
 import os
 import re
 import shutil
 import subprocess
+import sys
 import time
 from pathlib import Path
 
@@ -21,13 +24,18 @@ from harness import TOP, compare
 from install import CONTACTS
 from needs import mirror, missing
 
+sys.path.insert(0, str(TOP / "packaging"))
+import packing  # noqa: E402 (it is in the folder that the line above names)
+
 # (`usr-is-merged` and its hook save the packages that merge an old root)
 MMDEBSTRAP = ["mmdebstrap", "--quiet", "--variant=minbase", "--hook-dir=/usr/share/mmdebstrap/hooks/merged-usr", "--include=usr-is-merged",
               "--dpkgopt=force-unsafe-io"]
 # What the commands of the pages need, beside the packages. (No package of these is needed by another reader)
 TOOLS = ("g++ pkgconf cmake make cargo golang-go man-db jq parallel python3-venv python3-pip python3-cffi python3-distributed "
-         "libcapnp-dev bash-completion librust-capnp-dev librust-futures-io-dev")
+         "libcapnp-dev bash-completion librust-capnp-dev librust-capnp-rpc-dev librust-futures-dev librust-tokio-dev "
+         "librust-tokio-util-dev nodejs npm")
 PAGES = ("guide", "service", "output", "c", "go", "python", "scale")
+PAGES_OF_ARCHIVE = (*PAGES, "js")
 USED = "export HOME=/home/reader LC_ALL=C.UTF-8; cd; rm -rf work; mkdir work; cd work"
 # A crate over both crates for other crates of Debian.
 RUST = r"""mkdir -p src .cargo
@@ -46,10 +54,17 @@ ALONE = {
     "librust-capvet-dev": ("ls -d /usr/share/cargo/registry/capvet-*/src", None),
     "golang-capvet-dev": ("ls /usr/share/gocode/src/capvet.invalid/capvet/go.mod", None),
     "capvet-guard": ("capvet-guard --version | cut -d' ' -f1", "capvet-guard\n"),
-    "capvet-doc": ("ls /usr/share/doc/capvet/docs/guide.md", None),
+    "capvet-doc": ("ls /usr/share/doc/capvet/README.md", "/usr/share/doc/capvet/README.md\n"),
+    "capvet-inspector": ("ls /usr/share/capvet/inspector.html", "/usr/share/capvet/inspector.html\n"),
+    "librust-capvet-capnp-dev": ("ls -d /usr/share/cargo/registry/capvet_capnp-*/src", None),
+    "librust-capvet-capnp-rpc-dev": ("ls -d /usr/share/cargo/registry/capvet_capnp_rpc-*/src", None),
 }
-# Those that depend on the C library, which are tested on Debian 13 too.
-COMPILED = ("capvet", "libcapvet1", "python3-capvet", "capvet-guard")
+# Those that need a crate of Debian 12 which Debian 13 lacks, and that crate.
+OF_DEBIAN_12, OLD_CRATE = ("librust-capvet-capnp-dev", "librust-capvet-capnp-rpc-dev"), "librust-capnp-0.14+default-dev"
+# The examples in Rust, each with what it prints. (the server and the client of `rpc` are only built)
+EXAMPLES = {"trixie": ["cd examples/rust", "cargo run --offline --quiet --bin vet -- ../contacts.bin"]}
+EXAMPLES["bookworm"] = [*EXAMPLES["trixie"], "cd rpc", "cargo build --offline --quiet", "cd ../read", "cargo run --offline --quiet -- ../../contacts.bin"]
+BUILT = {"trixie": CONTACTS, "bookworm": f"{CONTACTS}accepted, 391 words in capnp\n"}
 # Files of apt, dpkg and the linker's cache, which each installation changes.
 CHANGING = r"/(proc|sys|dev|tmp|run|var/lib/(apt|dpkg)|var/cache|var/log|srv|home)(/|$)|/etc/ld.so.cache$|/__pycache__(/|$)"
 FILES = f"find / -xdev | grep -Ev '{CHANGING}' | sort"
@@ -111,10 +126,33 @@ def as_user(script):
     return f"cat > /srv/user <<'END-OF-USER'\n{USED}\n{script}\nEND-OF-USER\nsetpriv --reuid=reader --regid=reader --clear-groups bash /srv/user"
 
 
-def alone(base, folder, packages):
+def refused(base, folder):
+    """Debian 13 lacks a crate, so apt installs none of the packages that need it, as docs/install.md says."""
+    for package in OF_DEBIAN_12:
+        text, status = session(base, folder / "alone", f"apt-get -qq install -y --no-install-recommends {package}")
+        compare(f"apt refuses {package} on Debian 13", (100, True), (status, OLD_CRATE in text or OF_DEBIAN_12[0] in text))
+
+
+def purged_later(base, folder):
+    """What systemd enabled, and a package that was only removed, are gone after the purge of docs/install.md."""
+    links = "/etc/systemd/system/sockets.target.wants"
+    text, status = session(base, folder / "alone", f"""set -e
+apt-get -qq install -y --no-install-recommends capvet-guard capvet > /srv/log 2>&1 || {{ cat /srv/log; exit 1; }}
+mkdir -p {links}
+ln -s /lib/systemd/system/capvet-guard.socket {links}
+apt-get -qq remove -y capvet-guard > /srv/log 2>&1 || {{ cat /srv/log; exit 1; }}
+apt-get -qq purge -y {PURGED} > /srv/log 2>&1 || {{ cat /srv/log; exit 1; }}
+find / -xdev -iname '*capvet*' | grep -Ev '^/(proc|srv|var/lib/apt|etc/apt)' || true
+dpkg -l '*capvet*' 2>/dev/null | grep '^[a-z]i\\|^rc' || true
+""")
+    compare(f"left of a package that was removed first, on {base.name}", ("", 0), (text, status))
+
+
+def alone(base, folder):
     """Each package by itself: apt installs it with what it needs, it works, and nothing of it is left."""
-    for package in packages:
-        command, expected = ALONE[package]
+    for package, (command, expected) in ALONE.items():
+        if base.name == "trixie" and package in OF_DEBIAN_12:
+            continue
         script = f"""set -e
 apt-get -qq install -y --no-install-recommends {package} > /srv/log 2>&1 || {{ cat /srv/log; exit 1; }}
 echo @@; {as_user(command)}; echo @@
@@ -142,13 +180,13 @@ def together(base, folder, packages, excluded):
         page = page.replace(f"cp -r {docs}/examples .\n", "") if name == "README" else page
         scripts[name] = page, f"echo '@@@ {name}'\n{as_user(copy + reading.script(page))}\n"
     chosen = {"README": scripts["README"]} if excluded else scripts
+    examples = as_user("\n".join(["set -e", copy, *EXAMPLES[base.name]]))
+    built = "" if excluded else f"echo '@@@ examples'\n{examples}\n"
+    built += f"echo '@@@ crates'\n{as_user(RUST)}\n" if base.name == "bookworm" else ""
     script = f"""set -e
 {exclude}{FILES} > /srv/before
 apt-get -qq install -y --no-install-recommends {' '.join(packages)} > /srv/log 2>&1 || {{ cat /srv/log; exit 1; }}
-{''.join(it for _, it in chosen.values())}
-echo '@@@ crates'
-{as_user(RUST)}
-echo '@@@ documents'
+{''.join(it for _, it in chosen.values())}{built}echo '@@@ documents'
 test -e {docs}/docs/guide.md && echo there || echo excluded
 ls /usr/share/doc/capvet/copyright
 echo '@@@ left'
@@ -158,13 +196,55 @@ apt-get -qq purge -y {PURGED} > /srv/log 2>&1 || {{ cat /srv/log; exit 1; }}
 diff /srv/before /srv/after || true
 """
     text, status = session(base, folder / "all", script)
-    compare(f"a session with all packages, documents {'excluded' if excluded else 'there'}", 0, status if not status else text[-3000:])
+    compare(f"a session on {base.name} with all packages, documents {'excluded' if excluded else 'there'}", 0, status if not status else text[-3000:])
     parts = dict(part.split("\n", 1) for part in text.split("@@@ ")[1:])
     for name, (page, _) in chosen.items():
-        reading.read(f"{name} on Debian", page, parts.get(name, ""), compare)
-    compare("the crates over other crates of Debian", "built\n", parts.get("crates"))
+        reading.read(f"{name} on {base.name}", page, parts.get(name, ""), compare)
+    if not excluded:
+        compare(f"the examples in Rust on {base.name}", BUILT[base.name], parts.get("examples"))
+    if base.name == "bookworm":
+        compare("the crates over other crates of Debian", "built\n", parts.get("crates"))
     compare("documents", f"{'excluded' if excluded else 'there'}\n/usr/share/doc/capvet/copyright\n", parts.get("documents"))
     compare("files left of all packages", "", parts.get("left"))
+
+
+def from_archive(base, folder, dist):
+    """The commands of docs/install.md for dist/, then those of the README and the pages of the archive for Linux, at its top."""
+    archive = next(dist.glob("*-x86_64-linux.tar.gz"))
+    subprocess.run(["tar", "xf", archive, "-C", folder], check=True)
+    top = folder / archive.name.removesuffix(".tar.gz")
+    pages = {name: (top / name).read_text() for name in ("README.md", *(f"docs/{it}.md" for it in PAGES_OF_ARCHIVE))}
+    blocks = of_install((dist / "README.md").read_text())
+    script = ["export npm_config_update_notifier=false"]
+    for name, (_, before, block, _) in blocks.items():
+        script.append(f"echo '@@@ {name}'\n(cp -r /srv/dist received; cd received\n{before}set -e\n{block})\necho $?\nrm -rf received")
+    script.append(f"tar xf /srv/dist/{archive.name}; cd {top.name}\nexport PATH=$PWD/bin:$PATH PKG_CONFIG_PATH=$PWD/lib/pkgconfig")
+    script += [f"echo '@@@ {name}'\n({reading.script(page, 'venv/bin/python')})" for name, page in pages.items()]
+    text, status = session(base, folder / "archive", as_user("\n".join(script)))
+    compare(f"a session on {base.name} with the archive", 0, status if not status else text[-3000:])
+    parts = dict(part.split("\n", 1) for part in text.split("@@@ ")[1:])
+    for name, (_, _, _, expected) in blocks.items():
+        compare(f"install.md on {base.name}: {name}", f"{expected}0\n", parts.get(name))
+    for name, page in pages.items():
+        reading.read(f"{name} of the archive on {base.name}", page, parts.get(name, ""), compare, "venv/bin/python")
+    shutil.rmtree(top)
+
+
+def of_install(page):
+    """The blocks of docs/install.md that need no rights, by their names: the tools that each needs, what comes before it, its commands
+    and what it prints. They begin in a copy of dist/."""
+    version = packing.version()
+    unpack = f"tar xf capvet-{version}-x86_64-linux.tar.gz\nexport CAPVET=$PWD/capvet-{version}-x86_64-linux\n"
+    begun = {"sums": ((), "", ""), "any Linux": ((), "", f"capvet {packing.version_text()}\n"), "Python": (("wheel",), "", f"{version}\n"),
+             "Rust": (("cargo", "cc", "pkg-config"), f"{unpack}cargo new --quiet --vcs none rust\ncd rust\n", ""),
+             "Go": (("go", "cc", "pkg-config"), f"{unpack}mkdir go\ncd go\ngo mod init hello 2> /dev/null\n", ""),
+             "JavaScript": (("wasm-opt", "node", "npm"), f"mkdir js\ncp capvet-{version}.tgz js\ncd js\n", "")}
+    found = [text for language, text in reading.BLOCK.findall(page) if language == "sh" and not any(it in text for it in reading.UNTRIED)]
+    compare("blocks of commands of docs/install.md", len(begun), len(found))
+    # (without a network, an environment has Debian's `cffi`, as the page says)
+    changes = (("-m venv venv", "-m venv --system-site-packages venv"), ("pip install", "pip install -q --no-index"))
+    blocks = [functools.reduce(lambda text, change: text.replace(*change), changes, it) for it in found]
+    return {name: (tools, before, block, printed) for (name, (tools, before, printed)), block in zip(begun.items(), blocks)}
 
 
 ARM_FORMAT = (r":qemu-aarch64:M::\x7fELF\x02\x01\x01\x00\x00\x00\x00\x00\x00\x00\x00\x00\x02\x00\xb7\x00:"
@@ -227,18 +307,25 @@ def check(dist, folder):
         return
     place = folder / "roots"
     place.mkdir()
-    newer, base = make_root(place, dist, "trixie"), make_root(place, dist, "bookworm")
-    if newer is None or base is None:
-        return
-    alone(newer, place, COMPILED)
-    shutil.rmtree(newer)
-    alone(base, place, ALONE)
-    subprocess.run(["dpkg-deb", "-x", next(dist.glob("apt/capvet-doc_*.deb")), place / "pages"], check=True)
-    text, status = session(base, place / "tools", f"apt-get -qq install -y --no-install-recommends {TOOLS} > /srv/log 2>&1 || cat /srv/log")
-    compare("tools of developers", ("", 0), (text, status))
-    merge(base, place / "tools/upper")
     packages = sorted({it.name.split("_")[0] for it in dist.glob("apt/*.deb") if not it.name.endswith("_arm64.deb")})
-    for excluded in (False, True):
-        together(base, place, packages, excluded)
+    subprocess.run(["dpkg-deb", "-x", next(dist.glob("apt/capvet-doc_*.deb")), place / "pages"], check=True)
+    for suite in ("trixie", "bookworm"):
+        if base := make_root(place, dist, suite):
+            on(base, place, dist, [it for it in packages if suite == "bookworm" or it not in OF_DEBIAN_12])
+            shutil.rmtree(base)
     on_arm(dist, place)
     shutil.rmtree(place)
+
+
+def on(base, folder, dist, packages):
+    """All of it in a root of a release."""
+    if base.name == "trixie":
+        refused(base, folder)
+    alone(base, folder)
+    purged_later(base, folder)
+    text, status = session(base, folder / "tools", f"apt-get -qq install -y --no-install-recommends {TOOLS} > /srv/log 2>&1 || cat /srv/log")
+    compare(f"tools of developers on {base.name}", ("", 0), (text, status))
+    merge(base, folder / "tools/upper")
+    for excluded in (False, True):
+        together(base, folder, packages, excluded)
+    from_archive(base, folder, dist)
