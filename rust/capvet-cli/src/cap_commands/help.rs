@@ -1,8 +1,8 @@
 // crates/cap_commands/src/help.rt without its contracts, by tools/erase: that text is proved, this one is only tested.
 //! The texts of help.
 
-/// The version that `--version` prints.
-pub(crate) const VERSION: &str = "1.1.0";
+/// The version that `--version` prints. `-dev` says that it isn't released.
+pub(crate) const VERSION: &str = "1.1.0-dev";
 
 /// The help of the program, after the list of its commands.
 pub(crate) const PROGRAM_NOTES: &str = "\

@@ -19,7 +19,8 @@ pub struct Settings {
     /// Whether the input may have to be waited for, as a pipe. What an engine writes of a message is
     /// then flushed before the input is asked for more, unless the source shows the whole next
     /// message, see [`Peek`](crate::Peek). If the input is never waited for, as a regular file, no
-    /// engine flushes: its caller does so after the run.
+    /// engine flushes: its caller does so after the run. `tests/live.py` shows when an engine flushes,
+    /// and no clause says it.
     pub live: bool,
 }
 

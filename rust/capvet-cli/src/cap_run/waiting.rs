@@ -1,7 +1,8 @@
 // crates/cap_run/src/waiting.rt without its contracts, by tools/erase: that text is proved, this one is only tested.
 //! When an output is flushed, for all engines, and the sources that show what is buffered of their
 //! input. What can be said of the bytes that have come is said before the program waits for more: an
-//! engine flushes what it wrote, unless its source shows what is read next.
+//! engine flushes what it wrote, unless its source shows what is read next. `tests/live.py` shows this,
+//! and no clause says it.
 
 use crate::cap_run::settings::Settings;
 use capvet_core::cap_frame::{front_of, FrontFault, SizeLimit};

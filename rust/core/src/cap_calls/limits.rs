@@ -27,7 +27,8 @@ pub struct CallLimits {
     /// What else is allowed, as a sum. 1: bytes after the message. 2: a message that isn't strict.
     /// 4: a charge of more than 4096 words above the words of the segments. 8: the input is the
     /// words of one segment, without a table. Not with 1. Only [`crate::vet`],
-    /// [`crate::vet_exclusive`], [`crate::canonical`] and [`crate::is_canonical`] know it.
+    /// [`crate::vet_exclusive`], [`crate::canonical`], [`crate::is_canonical`],
+    /// [`crate::pointer_path`], [`crate::earlier_pointer`] and [`crate::explain`] know it.
     pub flags: u32,
     /// They have to be 0.
     pub reserved: [u64; 2],

@@ -26,8 +26,8 @@ fn greatest() -> Limits {
 /// Vets a message under demands, as [`vet_with`] does, and returns with an accepted message whether
 /// it is canonical, as [`is_canonical`] says (encoding: Canonicalization). Walks once through a
 /// canonical message. After a difference in the first quarter of the message it walks a second time,
-/// without comparing. After a later one it does so only at a far pointer that common readers may
-/// reject. Allocates nothing, and makes no copy.
+/// without comparing. After a later one it does so only if the message is amplified, or at a far
+/// pointer that common readers may reject. Allocates nothing, and makes no copy.
 ///
 /// # Errors
 ///

@@ -12,6 +12,9 @@ use crate::cap_vet::{FirstTurn, Place, Turn};
 /// its root word.
 const LONGEST_COPY: u32 = 268435457;
 
+/// How many pointers more than words a message has to have to be taken for an amplified one.
+const SLACK: u64 = 4096;
+
 /// The pointer word of a struct without words.
 const NO_WORDS: u64 = 0xffff_fffc;
 
@@ -24,6 +27,8 @@ pub(crate) struct NotCanonical;
 pub(crate) struct InOrder {
     // Where a copy has the next object, or 0 after a difference.
     pub(crate) end: u32,
+    // A message with more pointers is taken for an amplified one.
+    pub(crate) most: u64,
 }
 
 impl Turn for InOrder {
@@ -37,7 +42,7 @@ impl Turn for InOrder {
         w: u32,
         _object: Place,
         may_be_lax: bool,
-        _pointers: u64,
+        pointers: u64,
         cost: u64,
     ) -> Result<(), NotCanonical> {
         match next_end(message, s, w, cost, self.end) {
@@ -46,7 +51,7 @@ impl Turn for InOrder {
                 Ok(())
             }
             None => {
-                if !goes_on(message, s, w, may_be_lax, self.end) {
+                if !goes_on(message, s, w, may_be_lax, pointers > self.most, self.end) {
                     return Err(NotCanonical);
                 }
                 self.end = 0;
@@ -69,17 +74,27 @@ impl FirstTurn for InOrder {
         if words > LONGEST_COPY {
             return Err(NotCanonical);
         }
-        Ok(InOrder { end: 1 })
+        Ok(InOrder {
+            end: 1,
+            most: u64::from(words) + SLACK,
+        })
     }
 }
 
-// Whether the walk goes on after a difference. A second walk costs less only if the first has come
-// no further than a quarter of the message. A far pointer may have a form that common readers
-// reject, and this walk doesn't look for one.
+// Whether the walk goes on after a difference. A second walk costs less if the first has come no
+// further than a quarter of the message, or if the message is amplified. A far pointer may have a
+// form that common readers reject, and this walk doesn't look for one.
 #[cold]
 #[inline(never)]
-fn goes_on<M: Segments>(message: &M, s: u32, w: u32, may_be_lax: bool, end: u32) -> bool {
-    if end != 0 && end < message.len(s) / 4 {
+fn goes_on<M: Segments>(
+    message: &M,
+    s: u32,
+    w: u32,
+    may_be_lax: bool,
+    amplified: bool,
+    end: u32,
+) -> bool {
+    if amplified || (end != 0 && end < message.len(s) / 4) {
         return false;
     }
     !may_be_lax || kind(message.word(s, w)) != 2

@@ -51,7 +51,12 @@ pub fn vet_with<'m, M: Segments>(
 /// The limits within which a message has to be accepted under the demands.
 pub fn limits_under<M: Segments>(message: &M, limits: Limits, demands: Demands) -> Limits {
     if demands.unamplified {
-        return limits.lowered(message_words(message) + SLACK);
+        return limits.lowered(unamplified_words(message));
     }
     limits
+}
+
+/// The highest charge of an unamplified message.
+pub(crate) fn unamplified_words<M: Segments>(message: &M) -> u64 {
+    message_words(message) + SLACK
 }

@@ -22,8 +22,8 @@ use crate::cap_vet::{marks_for, vet_with, Demands, ExclusiveFault, Limits};
 ///   that uses one, and how many were checked;
 /// - [`Answer::Good`]; the report is that of [`crate::vet`].
 ///
-/// With the last two, the first `required` numbers hold marks and the others are unchanged. With
-/// any other answer all are unchanged. The report is written whole.
+/// After the last two, the contents of the first `required` numbers are unspecified, and the others
+/// are unchanged. After any other answer all are unchanged. The report is written whole.
 pub fn vet_exclusive(
     bytes: &[u8],
     limits: &CallLimits,

@@ -36,9 +36,9 @@ pub enum ExclusiveFault {
 
 impl<'m, M: Segments> Vetted<'m, M> {
     /// As [`into_exclusive`](Vetted::into_exclusive), with the marks in the caller's buffer `marks`.
-    /// Walks the message once more. Allocates nothing. The buffer may hold anything. Its first
-    /// [`crate::marks_for`] numbers, for the words of the message, are cleared and used. The numbers
-    /// after these stay as they are.
+    /// Walks the message once more, up to the first overlap. Allocates nothing. The buffer may hold
+    /// anything. Its first [`crate::marks_for`] numbers, for the words of the message, are cleared and
+    /// used. The numbers after these stay as they are.
     ///
     /// # Errors
     ///

@@ -5,8 +5,8 @@
 use crate::rattle::Vec;
 
 use crate::cap_frame::Segments;
-use crate::cap_spec::{Refusal, StrictRefusal};
-use crate::cap_vet::demands::{limits_under, vet_with, Demands};
+use crate::cap_spec::StrictRefusal;
+use crate::cap_vet::demands::{limits_under, unamplified_words, vet_with, Demands};
 use crate::cap_vet::exclusiveness::exclusive::Exclusive;
 use crate::cap_vet::exclusiveness::marks::{fill_starts, numbers_for, Marks};
 use crate::cap_vet::exclusiveness::overlap_turn::{Overlap, OverlapSearch};
@@ -43,8 +43,9 @@ pub enum ExclusiveRefusal {
 /// is null or a capability. It uses the words of its object, the tag among them. An object without
 /// words uses none, wherever it starts.
 ///
-/// Walks once. Allocates once: one bit for each word of the message, and at most 64 bits more. Where
-/// that fails, the message is vetted all the same.
+/// Walks once, but for amplified messages with an overlap: these are walked a second time, without
+/// marks. Allocates once: one bit for each word of the message, and at most 64 bits more. Where that
+/// fails, the message is vetted all the same.
 ///
 /// # Errors
 ///
@@ -101,11 +102,13 @@ fn vet_marking<'m, M: Segments>(
     demands: Demands,
     bits: &mut [u64],
 ) -> Result<(Vetted<'m, M>, Option<Overlap>), StrictRefusal> {
-    let limits = limits_under(message, limits, demands);
+    let within = limits_under(message, limits, demands);
+    let most = unamplified_words(message);
     let mut report = Report::default();
-    let firsts = match mark_message(message, &limits, bits, &mut report) {
+    let firsts = match mark_message(message, &within, most, bits, &mut report) {
         Ok(firsts) => firsts,
-        Err(refusal) => return Err(StrictRefusal::Refused(refusal)),
+        Err(Stopped::Refused(refusal)) => return Err(StrictRefusal::Refused(refusal)),
+        Err(Stopped::ByTurn(first)) => return vet_overlapping(message, limits, demands, first),
     };
     match strict_fault(message, demands, firsts.lax) {
         None => Ok((Vetted { message, report }, firsts.overlap)),
@@ -113,10 +116,25 @@ fn vet_marking<'m, M: Segments>(
     }
 }
 
+// Vets a message of which this is the first pointer that overlaps, without marks.
+#[cold]
+#[inline(never)]
+fn vet_overlapping<'m, M: Segments>(
+    message: &'m M,
+    limits: Limits,
+    demands: Demands,
+    first: Overlap,
+) -> Result<(Vetted<'m, M>, Option<Overlap>), StrictRefusal> {
+    match vet_with(message, limits, demands) {
+        Ok(vetted) => Ok((vetted, Some(first))),
+        Err(refusal) => Err(refusal),
+    }
+}
+
 impl<'m, M: Segments> Vetted<'m, M> {
     /// The same message as one of which no word is used twice (profile), as for
-    /// [`crate::vet_exclusive`]. Walks the message once more. Allocates once: one bit for each word
-    /// of the message, and at most 64 bits more.
+    /// [`crate::vet_exclusive`]. Walks the message once more, up to the first overlap. Allocates once:
+    /// one bit for each word of the message, and at most 64 bits more.
     ///
     /// # Errors
     ///
@@ -139,13 +157,14 @@ impl<'m, M: Segments> Vetted<'m, M> {
     }
 }
 
-/// The first pointer that overlaps in an accepted message. Walks the message once more.
+/// The first pointer that overlaps in an accepted message. Walks the message once more, and stops there.
 pub(crate) fn first_overlap<M: Segments>(message: &M, bits: &mut [u64]) -> Option<Overlap> {
     let mut report = Report::default();
-    match mark_message(message, &Limits::greatest(), bits, &mut report) {
+    match mark_message(message, &Limits::greatest(), 0, bits, &mut report) {
         Ok(firsts) => firsts.overlap,
+        Err(Stopped::ByTurn(first)) => Some(first),
         // The message is accepted.
-        Err(_) => unreachable!(),
+        Err(Stopped::Refused(_)) => unreachable!(),
     }
 }
 
@@ -156,18 +175,20 @@ struct Firsts {
     lax: Option<LaxPointer>,
 }
 
-// Walks a message, and marks what each pointer uses. A table of where the bits of its segments start is
-// made ready for each message of several alone.
+// Walks a message, and marks what each pointer uses. After an overlap the walk stops at a pointer past
+// number `most`. A table of where the bits of its segments start is made ready for each message of
+// several alone.
 fn mark_message<M: Segments>(
     message: &M,
     limits: &Limits,
+    most: u64,
     bits: &mut [u64],
     report: &mut Report,
-) -> Result<Firsts, Refusal> {
+) -> Result<Firsts, Stopped<Overlap>> {
     if message.count() == 1 {
-        return mark_all(message, limits, &[0], bits, report);
+        return mark_all(message, limits, most, &[0], bits, report);
     }
-    mark_segments(message, limits, bits, report)
+    mark_segments(message, limits, most, bits, report)
 }
 
 // The same of a message of several segments.
@@ -176,25 +197,28 @@ fn mark_message<M: Segments>(
 fn mark_segments<M: Segments>(
     message: &M,
     limits: &Limits,
+    most: u64,
     bits: &mut [u64],
     report: &mut Report,
-) -> Result<Firsts, Refusal> {
+) -> Result<Firsts, Stopped<Overlap>> {
     let mut starts = ArrayVec::new();
     fill_starts(message, &mut starts);
-    mark_all(message, limits, starts.as_slice(), bits, report)
+    mark_all(message, limits, most, starts.as_slice(), bits, report)
 }
 
 // The same with a table of where the bits of each segment start.
 fn mark_all<M: Segments>(
     message: &M,
     limits: &Limits,
+    most: u64,
     starts: &[u64],
     bits: &mut [u64],
     report: &mut Report,
-) -> Result<Firsts, Refusal> {
+) -> Result<Firsts, Stopped<Overlap>> {
     let mut search = OverlapSearch {
         marks: Marks { starts, bits },
         first: None,
+        most,
         strictness: LaxSearch { first: None },
     };
     if !search.marks.mark_words(0, 0, 1) {
@@ -205,7 +229,6 @@ fn mark_all<M: Segments>(
             overlap: search.first,
             lax: search.strictness.first,
         }),
-        Err(Stopped::Refused(refusal)) => Err(refusal),
-        Err(Stopped::ByTurn(never)) => match never {},
+        Err(stopped) => Err(stopped),
     }
 }

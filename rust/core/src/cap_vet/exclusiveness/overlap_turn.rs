@@ -6,7 +6,6 @@ use crate::cap_vet::exclusiveness::marks::Marks;
 use crate::cap_vet::nodes::place::Place;
 use crate::cap_vet::strictness::strict_turn::LaxSearch;
 use crate::cap_vet::walk::turn::Turn;
-use core::convert::Infallible;
 
 /// The first pointer in preorder that uses a word which is used already.
 #[derive(Clone, Copy)]
@@ -17,33 +16,43 @@ pub(crate) struct Overlap {
     pub(crate) pointers: u64,
 }
 
-/// A walk that remembers the first pointer which overlaps, and goes on without marks. It remembers the
-/// first pointer which common readers reject, too.
+/// A walk that remembers the first pointer which overlaps. It goes on without marks, and stops at a
+/// pointer past number `most`. It remembers the first pointer which common readers reject, too.
 pub(crate) struct OverlapSearch<'a> {
     pub(crate) marks: Marks<'a>,
     pub(crate) first: Option<Overlap>,
+    pub(crate) most: u64,
     pub(crate) strictness: LaxSearch,
 }
 
 impl OverlapSearch<'_> {
-    // Marks what a pointer uses, unless one overlapped before.
+    // Marks what a pointer uses, unless one overlapped before. Answers whether the walk stops.
     #[inline(always)]
-    fn mark<M: Segments>(&mut self, message: &M, s: u32, w: u32, object: Place, pointers: u64) {
+    fn mark<M: Segments>(
+        &mut self,
+        message: &M,
+        s: u32,
+        w: u32,
+        object: Place,
+        pointers: u64,
+    ) -> bool {
         if self.first.is_some() {
-            return;
+            return pointers > self.most;
         }
-        if !self.marks.mark_pointer(message, s, w, object) {
-            self.first = Some(Overlap {
-                segment: s,
-                word: w,
-                pointers,
-            });
+        if self.marks.mark_pointer(message, s, w, object) {
+            return false;
         }
+        self.first = Some(Overlap {
+            segment: s,
+            word: w,
+            pointers,
+        });
+        pointers > self.most
     }
 }
 
 impl Turn for OverlapSearch<'_> {
-    type Stop = Infallible;
+    type Stop = Overlap;
 
     #[inline(always)]
     fn after<M: Segments>(
@@ -55,9 +64,18 @@ impl Turn for OverlapSearch<'_> {
         may_be_lax: bool,
         pointers: u64,
         cost: u64,
-    ) -> Result<(), Infallible> {
-        self.mark(message, s, w, object, pointers);
-        self.strictness
+    ) -> Result<(), Overlap> {
+        if self.mark(message, s, w, object, pointers) {
+            if let Some(first) = self.first {
+                return Err(first);
+            }
+        }
+        match self
+            .strictness
             .after(message, s, w, object, may_be_lax, pointers, cost)
+        {
+            Ok(()) => Ok(()),
+            Err(never) => match never {},
+        }
     }
 }
