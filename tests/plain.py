@@ -145,8 +145,8 @@ def program(folder):
     compare("cargo build in rust/capvet-cli", ("", 0), run(["cargo", "build", *CARGO], cwd=TOP / "rust/capvet-cli", env=variables))
     plain = folder / "target/debug/capvet"
     for sample in sorted((TOP / "examples").glob("*.*")):
-        for words in (["segments"], ["vet"], ["vet", "--strict", "--unamplified", "--exclusive"], ["vet", "--packed"], ["explain"], ["filter"],
-                      ["dump"], ["get", "/p0"], ["check"], ["canon"], ["pack"], ["unpack"]):
+        for words in (["segments"], ["vet"], ["vet", "--strict", "--unamplified", "--exclusive"], ["vet", "--packed"], ["explain"],
+                      ["filter"], ["dump"], ["get", "/p0"], ["check"], ["canon"], ["pack"], ["unpack"]):
             both = (outputs([it, *words, sample]) for it in (PROGRAM, plain))
             compare(f"{' '.join(words)} {sample.name}", next(both), next(both))
 

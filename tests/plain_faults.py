@@ -52,7 +52,8 @@ CHANGES = (
     Change("the segments of a strict message", "cap_vet/strictness/path_strictness.rs", "message.count() > MOST_SEGMENTS",
            "message.count() >= MOST_SEGMENTS"),
     Change("the length of a list of values in bytes", "cap_calls/node.rs", "u64::from(count) + 7) / 8", "u64::from(count) + 8) / 8"),
-    Change("the bits of a tag", "cap_pack/lanes/scalars.rs", "HIGH_BITS: u64 = 0x8080_8080_8080_8080", "HIGH_BITS: u64 = 0x8080_8080_8080_8000"),
+    Change("the bits of a tag", "cap_pack/lanes/scalars.rs", "HIGH_BITS: u64 = 0x8080_8080_8080_8080",
+           "HIGH_BITS: u64 = 0x8080_8080_8080_8000"),
     Change("the bits of one mark", "cap_vet/exclusiveness/marks.rs", "(words / 64 + 1)", "(words / 65 + 1)"),
 )
 

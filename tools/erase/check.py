@@ -3,9 +3,10 @@
 
     check.py [TOP]
 
-TOP is the folder of the repository, by default that of this file. It shares nothing with erase.py. Both texts are taken as lists of words. Those of a clause or a ghost item are left out of the
-source, and both lists are brought to one form by the tables below. Then they have to be equal, and so have the imports and
-modules of a file, as sets, since rustfmt sorts these. It prints the number of each rewrite, and has status 1 if a file differs.
+TOP is the folder of the repository, by default that of this file. It shares nothing with erase.py. Both texts are taken as lists of
+words. Those of a clause or a ghost item are left out of the source, and both lists are brought to one form by the tables below. Then
+they have to be equal, and so have the imports and modules of a file, as sets, since rustfmt sorts these. It prints the number of each
+rewrite, and has status 1 if a file differs.
 """
 import re
 import sys
@@ -140,11 +141,13 @@ def arms(words):
 
 def let_else(text):
     """The text with each `let N = if let P = E { N } else { B } ;` as `let P = E else { B } ;`."""
-    form = re.compile(r"let ((?:\( )?(?:mut )?\w+(?: , \w+)*(?: \))?|\( \)) = if let ([^=;]*?) = ((?:[^{};])*?) { (\(? ?\w+(?: , \w+)*(?: \))?|\( \)) } else {")
+    names = r"(?:\( )?(?:mut )?\w+(?: , \w+)*(?: \))?|\( \)"
+    form = re.compile(rf"let ({names}) = if let ([^=;]*?) = ([^{{}};]*?) {{ ({names}) }} else {{")
 
     def undone(found):
         names, pattern, value, inner = found.groups()
-        if names.replace("mut ", "") != inner or set(re.findall(r"\b[a-z]\w*", inner)) != set(re.findall(r"(?<!:: )\b[a-z]\w*\b(?! [({:])", pattern)):
+        bound = re.findall(r"(?<!:: )\b[a-z]\w*\b(?! [({:])", pattern)
+        if names.replace("mut ", "") != inner or set(re.findall(r"\b[a-z]\w*", inner)) != set(bound):
             return found[0]
         if "mut" in names:
             pattern = pattern.replace(inner, f"mut {inner}")

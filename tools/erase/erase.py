@@ -4,8 +4,8 @@
     erase.py [--check]
 
 Each crate becomes a module of its name. All that is taken out is a whole clause, ghost item or ghost member, and the files of
-theorems and of vectors. All that is rewritten is in rules.py and here, and `erased.txt` of each package counts it. Anything else is an error.
-`--check` writes nothing, and says whether the files of the packages are those that it would write.
+theorems and of vectors. All that is rewritten is in rules.py and here, and `erased.txt` of each package counts it. Anything else
+is an error. `--check` writes nothing, and says whether the files of the packages are those that it would write.
 """
 import argparse
 import filecmp
