@@ -5,7 +5,7 @@
 
 A block of a page that has lines '$ COMMAND' is run line by line in a folder with the samples. Each command has to print
 exactly what the page shows after it. A block of docs/proofs.md has to be in a file that the page names, or what the prover
-reported when build/ was made; a block of shell there has to run at the top of the repository. Links lead to a file and to a heading that exist, and files that a page
+reported when build/ was made. A block of shell there has to run at the top of the repository. Links lead to a file and to a heading that exist, and files that a page
 names exist. The pages that packaging/written/write.py makes are what it would write. The pages, the manual pages, the header
 and help have no word of tests/words.md, no sentence of more than 40 words, and one tagline. The numbers of limits in pages,
 examples and headers have names. No page has control characters, and the manual page has each exit status. The last line is
