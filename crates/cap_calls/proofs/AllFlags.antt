@@ -1,11 +1,13 @@
 -- With all three flags nothing but acceptance is demanded.
 use Rattle.cap_spec.specs.declared.Refusal.{Refusal}
 use Rattle.cap_spec.proofs.ProofNames.{Bool, List, ap, arith, false, inl, inr, not, refl, subst, sym, ℕ, ◌∙◌, ◌≡◌}
-use Rattle.cap_spec.proofs.ProofNames.{false≢true, IsRefused, rules}
+use Rattle.cap_spec.proofs.ProofNames.{false≢true, IsRefused, IsRefusedOnPath, rules}
+use Rattle.cap_vet.specs.PathDemands.{IsPathFault}
 use Rattle.cap_vet.specs.VetNames.{IsDemandFault, Meets, IsAccepted, marks_of}
 use Rattle.cap_calls.specs.CallFindings.{JudgesAny, accepted, without}
 use Rattle.cap_calls.specs.ExclusiveCalls.{MarksAny, too_small}
-use Rattle.cap_calls.specs.CallNames.{StrictRefusal, Demands, Report, Judges, Reports, ReportsWhole, framed, refused}
+use Rattle.cap_calls.specs.CallLaws.{no_demands}
+use Rattle.cap_calls.specs.CallNames.{Step, StrictRefusal, Demands, Report, Judges, Reports, ReportsWhole, framed, refused}
 use Rattle.cap_calls.specs.CallNames.{refused_found, reports, trailing, allows_trailing, demands_of, has_no_table}
 use Rattle.cap_calls.specs.CallNames.{ReportsInput, of_frame, of_no_words, of_words, Marks, exclusive, overlap, Found}
 use Rattle.cap_calls.specs.CallNames.{CallLimits}
@@ -13,12 +15,8 @@ use Rattle.cap_calls.proofs.Words.{one_input}
 use Rattle.cap_spec.specs.declared.StrictRefusal.TheVariants as strict
 use Rattle.cap_vet.specs.declared.exclusiveness.exclusive_buffer.ExclusiveFault.TheVariants as fault
 
--- no demand
-abbrev none : Demands
-none = record { strict = false; unamplified = false }
-
 -- what the flags come to
-pub demands_none : (l : CallLimits) → l.flags ≡ 7 → demands_of l ≡ none
+pub demands_none : (l : CallLimits) → l.flags ≡ 7 → demands_of l ≡ no_demands
 demands_none l e = rw e refl
 
 pub table_given : (l : CallLimits) → l.flags ≡ 7 → has_no_table l ≡ false
@@ -35,20 +33,28 @@ pub trailing_allowed : (l : CallLimits) → l.flags ≡ 7 → not (allows_traili
 trailing_allowed l e = rw e refl
 
 -- Without a demand a message has only the faults for which it is refused.
-fault_refused : (m : List (List ℕ)) (w d : ℕ) (r : StrictRefusal) → IsDemandFault none m w d r
+pub fault_refused : (m : List (List ℕ)) (w d : ℕ) (r : StrictRefusal) → IsDemandFault no_demands m w d r
     → (refusal : Refusal) × IsRefused m w d refusal × (r ≡ strict.Refused refusal)
 fault_refused m w d r h = search (rules, false≢true)
 
 -- And it meets no demand if it is accepted.
-meets_none : (m : List (List ℕ)) (w d : ℕ) (r : Report) → IsAccepted m w d r → Meets none m w d
+meets_none : (m : List (List ℕ)) (w d : ℕ) (r : Report) → IsAccepted m w d r → Meets no_demands m w d
 meets_none m w d r (t, h) =
     record { within = (t, r.charge, r.depth, h.within); strict = λ e. absurd (false≢true e) }
 
+-- Nor does a path have others.
+pub path_refused : (m : List (List ℕ)) (w d : ℕ) (path : List Step) (r : StrictRefusal)
+    → IsPathFault no_demands m w d path r
+    → (refusal : Refusal) × IsRefusedOnPath m w d path refusal × (r ≡ strict.Refused refusal)
+path_refused m w d path (strict.Refused r) h = (r, h, refl)
+path_refused m w d path strict.ManySegments h = absurd (false≢true h.0)
+path_refused m w d path (strict.Pointer what s v n) h = absurd (false≢true h.0)
+
 module _ {K : Type 0} {P : List (List ℕ) → Report → Found → Type 0} (m : List (List ℕ)) (w d : ℕ) (f : Found) where
-  judges_less : Judges none K P m w d f → JudgesAny K P m w d f
+  judges_less : Judges no_demands K P m w d f → JudgesAny K P m w d f
   judges_less x1 = search (rules, fault_refused)
 
-  judges_more : JudgesAny K P m w d f → Judges none K P m w d f
+  judges_more : JudgesAny K P m w d f → Judges no_demands K P m w d f
   judges_more (inl (r, h, e, k)) = refused (strict.Refused r) h e k
   judges_more (inr (r, h, p)) = accepted r h (meets_none m w d r h) p
 
@@ -62,7 +68,7 @@ module _ {K : Type 0} {P : List (List ℕ) → Report → Found → Type 0} (l :
   all_more h = search (rules, demands_none, judges_more)
 
 -- So it is for the marks of a message.
-marks_less : (size : ℕ) (m : List (List ℕ)) (w d : ℕ) (f : Found) → Marks size none m w d f → MarksAny size m w d f
+marks_less : (size : ℕ) (m : List (List ℕ)) (w d : ℕ) (f : Found) → Marks size no_demands m w d f → MarksAny size m w d f
 marks_less size m w d f (refused r h e k) =
     (let q = fault_refused m w d r h in inl (fault.Refused q.0, q.1, e ∙ ap refused_found q.2))
 marks_less size m w d f (accepted r h n (too_small few e)) = inl (fault.BufferTooSmall (marks_of m) r, (h, few, refl), e)
@@ -70,7 +76,7 @@ marks_less size m w d f (accepted r h n (overlap s v k enough first e)) = inl
     (fault.Overlap s v k, (r, h, enough, first), e)
 marks_less size m w d f (accepted r h n (exclusive enough j e)) = inr (r, h, j, enough, e)
 
-marks_more : (size : ℕ) (m : List (List ℕ)) (w d : ℕ) (f : Found) → MarksAny size m w d f → Marks size none m w d f
+marks_more : (size : ℕ) (m : List (List ℕ)) (w d : ℕ) (f : Found) → MarksAny size m w d f → Marks size no_demands m w d f
 marks_more size m w d f (inl (fault.Refused r, h, e)) = refused (strict.Refused r) h e tt
 marks_more size m w d f (inl (fault.BufferTooSmall n r, h, e)) = accepted r h.0 (meets_none m w d r h.0)
     (too_small (omega (arith, h.1, h.2)) e)

@@ -8,6 +8,7 @@ pub mod Explained
 pub mod GivenWords
 pub mod Gotten
 pub mod Marked
+mod LimitExamples
 pub mod MessageStages
 pub mod NodeBytes
 pub mod NodeFrames
@@ -36,4 +37,5 @@ pub mod UnpackedMessages
 pub mod UnpackedPieces
 pub mod VettedNodes
 pub mod Wider
+pub mod WiderUnpacking
 pub mod Words

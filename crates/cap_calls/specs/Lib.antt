@@ -4,6 +4,7 @@ pub mod CallFindings
 pub mod CallFlags
 pub mod CallFrames
 pub mod CallInputs
+pub mod CallLaws
 pub mod CallNodes
 pub mod CallReports
 pub mod Calls

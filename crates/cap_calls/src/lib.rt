@@ -41,7 +41,7 @@ pub use calls::vet_exclusive::vet_exclusive;
 pub use calls::vet_segments::vet_segments;
 pub use front::NoFrame;
 pub use laws::{
-    all_flags_demand_nothing, separate_segments_are_vetted_as_framed, wider_limits_accept_as_much,
+    all_flags_demand_nothing, separate_segments_are_vetted_as_framed, wider_limits_refuse_no_more,
 };
 pub use limits::CallLimits;
 pub use node::CallNode;
