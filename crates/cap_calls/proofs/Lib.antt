@@ -10,6 +10,7 @@ pub mod Gotten
 pub mod Marked
 mod LimitExamples
 pub mod MessageStages
+pub mod NamedPointers
 pub mod NodeBytes
 pub mod NodeFrames
 pub mod OneNode

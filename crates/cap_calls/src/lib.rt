@@ -15,6 +15,7 @@ mod one_slice;
 mod over;
 mod packed_stream;
 mod packing_laws;
+mod pointer_laws;
 mod report;
 mod slices;
 mod step;
@@ -49,6 +50,7 @@ pub use node_laws::{
     nodes_are_inside_their_frame, offsets_are_of_words, vetted_messages_have_their_nodes,
 };
 pub use packing_laws::{packed_message_unpacks, pieces_unpack_as_one};
+pub use pointer_laws::named_pointers_have_their_paths;
 pub use report::CallReport;
 pub use step::CallStep;
 pub use unpacking::Unpacking;

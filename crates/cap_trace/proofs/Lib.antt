@@ -10,4 +10,4 @@ mod Onward
 mod RowBranches
 mod Searching
 pub mod Sharing
-mod Traceable
+pub mod Traceable
