@@ -85,9 +85,14 @@ fn forms_of_words(rt: HostRuntime) {
     }
 }
 
+const ONE_WORD: Shape = Shape::Struct {
+    data_words: 1,
+    pointers: 0,
+};
+
 // The words of each segment of a message, and what its first word leads to.
-static FOLLOWED: [(&[&[u64]], Result<Followed, Reason>); 6] = [
-    // Null and a capability, in landing pads.
+static FOLLOWED: [(&[&[u64]], Result<Followed, Reason>); 23] = [
+    // Null, and a capability, in landing pads of one word.
     (
         &[&[0x0200000001000000], &[0]],
         Ok(Followed::Null { pads: 1 }),
@@ -96,12 +101,48 @@ static FOLLOWED: [(&[&[u64]], Result<Followed, Reason>); 6] = [
         &[&[0x0200000001000000], &[0x0300000005000000]],
         Ok(Followed::Cap { pads: 1, index: 5 }),
     ),
-    // A struct of one word, through a landing pad of two words.
+    // A struct on its own pointer word, one after a landing pad, and two through pads of two words.
+    (
+        &[&[0xfcffffff01000000], &[0]],
+        Ok(Followed::Target(Target {
+            segment: 0,
+            start: 0,
+            words: 1,
+            pads: 0,
+            charge: 1,
+            shape: ONE_WORD,
+        })),
+    ),
+    (
+        &[&[0x0a00000000000000, 0x0000000001000000, 0x2a00000000000000]],
+        Ok(Followed::Target(Target {
+            segment: 0,
+            start: 2,
+            words: 1,
+            pads: 1,
+            charge: 2,
+            shape: ONE_WORD,
+        })),
+    ),
+    (
+        &[
+            &[0x0600000001000000],
+            &[0x0200000001000000, 0x0000000001000000],
+        ],
+        Ok(Followed::Target(Target {
+            segment: 1,
+            start: 0,
+            words: 1,
+            pads: 2,
+            charge: 3,
+            shape: ONE_WORD,
+        })),
+    ),
     (
         &[
             &[0x0600000001000000],
             &[0x0200000002000000, 0x0000000001000000],
-            &[42],
+            &[0x2a00000000000000],
         ],
         Ok(Followed::Target(Target {
             segment: 2,
@@ -109,13 +150,25 @@ static FOLLOWED: [(&[&[u64]], Result<Followed, Reason>); 6] = [
             words: 1,
             pads: 2,
             charge: 3,
+            shape: ONE_WORD,
+        })),
+    ),
+    // A struct without words, in a segment without words.
+    (
+        &[&[0x0600000001000000], &[0x0200000002000000, 0], &[]],
+        Ok(Followed::Target(Target {
+            segment: 2,
+            start: 0,
+            words: 0,
+            pads: 2,
+            charge: 2,
             shape: Shape::Struct {
-                data_words: 1,
+                data_words: 0,
                 pointers: 0,
             },
         })),
     ),
-    // Three elements without bits, and two structs of one word in three words.
+    // Elements without bits: three, and the most that there can be.
     (
         &[&[0x0100000018000000]],
         Ok(Followed::Target(Target {
@@ -128,7 +181,28 @@ static FOLLOWED: [(&[&[u64]], Result<Followed, Reason>); 6] = [
         })),
     ),
     (
-        &[&[0x010000001f000000, 0x0800000001000000, 5, 0, 255]],
+        &[&[0x01000000f8ffffff]],
+        Ok(Followed::Target(Target {
+            segment: 0,
+            start: 1,
+            words: 0,
+            pads: 0,
+            charge: 536870911,
+            shape: Shape::Scalars {
+                code: 0,
+                count: 536870911,
+            },
+        })),
+    ),
+    // Two structs of one word: in three words, in one, and after a tag that is no struct's.
+    (
+        &[&[
+            0x010000001f000000,
+            0x0800000001000000,
+            0x0500000000000000,
+            0,
+            0xff00000000000000,
+        ]],
         Ok(Followed::Target(Target {
             segment: 0,
             start: 1,
@@ -143,10 +217,82 @@ static FOLLOWED: [(&[&[u64]], Result<Followed, Reason>); 6] = [
             },
         })),
     ),
-    // A list whose tag is no struct's.
     (
-        &[&[0x010000001f000000, 0x0900000001000000, 5, 0, 255]],
+        &[&[
+            0x010000000f000000,
+            0x0800000001000000,
+            0x0500000000000000,
+            0,
+            0xff00000000000000,
+        ]],
+        Err(Reason::CompositeOverrun),
+    ),
+    (
+        &[&[
+            0x010000001f000000,
+            0x0900000001000000,
+            0x0500000000000000,
+            0,
+            0xff00000000000000,
+        ]],
         Err(Reason::CompositeTag),
+    ),
+    // A struct before its segment, and one after it.
+    (&[&[0xf8ffffff00000000], &[0]], Err(Reason::OutOfSegment)),
+    (
+        &[&[0x0200000001000000], &[0x0000000001000000]],
+        Err(Reason::OutOfSegment),
+    ),
+    // Pads of one word: reserved, far, and in no segment.
+    (
+        &[&[0x0200000001000000], &[0x0700000005000000]],
+        Err(Reason::Reserved),
+    ),
+    (
+        &[&[0x0200000001000000], &[0x0200000000000000]],
+        Err(Reason::PadIsFar),
+    ),
+    (&[&[0x0200000007000000], &[0]], Err(Reason::SegmentMissing)),
+    // Pads of two words: one isn't all inside its segment, and one leads to no segment.
+    (&[&[0x0600000001000000], &[0]], Err(Reason::PadOutside)),
+    (
+        &[
+            &[0x0600000001000000],
+            &[0x0200000007000000, 0x0000000001000000],
+        ],
+        Err(Reason::SegmentMissing),
+    ),
+    // The first word of a pad is null, or leads to two words. The second is a capability, or has an offset.
+    (
+        &[
+            &[0x0600000001000000],
+            &[0, 0x0000000001000000],
+            &[0x2a00000000000000],
+        ],
+        Err(Reason::PadNotFar),
+    ),
+    (
+        &[
+            &[0x0600000001000000],
+            &[0x0600000001000000, 0x0000000001000000],
+        ],
+        Err(Reason::PadNotFar),
+    ),
+    (
+        &[
+            &[0x0600000001000000],
+            &[0x0200000002000000, 0x0300000000000000],
+            &[0x2a00000000000000],
+        ],
+        Err(Reason::TagKind),
+    ),
+    (
+        &[
+            &[0x0600000001000000],
+            &[0x0200000002000000, 0x0400000001000000],
+            &[0x2a00000000000000],
+        ],
+        Err(Reason::TagOffset),
     ),
 ];
 

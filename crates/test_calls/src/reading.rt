@@ -103,7 +103,7 @@ fn has_bytes(
     Ok(())
 }
 
-static PLACES: [Row; 7] = [
+static PLACES: [Row; 8] = [
     // Null, and a struct without words at its own place.
     (&[0x0000000001000000, 0], 0, &[(&[], Ok(&[]))]),
     (
@@ -111,8 +111,13 @@ static PLACES: [Row; 7] = [
         0,
         &[(&[], Ok(&[]))],
     ),
-    // A struct of one data word and two pointers: to one word, and to three bits, whose other bits are
-    // shown as they are.
+    // Three bits: the other bits of their word are shown as they are.
+    (
+        &[0x0000000002000000, 0x0100000019000000, 0xffffffffffffffff],
+        1,
+        &[(&[], Ok(&[0xffffffffffffffff]))],
+    ),
+    // A struct of one data word and two pointers: to one word, and to three bits.
     (
         &[
             0x0000000006000000,
@@ -141,7 +146,7 @@ static PLACES: [Row; 7] = [
             0x010000001f000000,
             0x0800000001000000,
             0x0500000000000000,
-            0x0600000000000000,
+            0x0000000000000000,
             0xff00000000000000,
         ],
         9,
@@ -151,12 +156,12 @@ static PLACES: [Row; 7] = [
                 Ok(&[
                     0x0800000001000000,
                     0x0500000000000000,
-                    0x0600000000000000,
+                    0x0000000000000000,
                     0xff00000000000000,
                 ]),
             ),
             (&[Step::Item(0)], Ok(&[0x0500000000000000])),
-            (&[Step::Item(1)], Ok(&[0x0600000000000000])),
+            (&[Step::Item(1)], Ok(&[0x0000000000000000])),
         ],
     ),
     // A struct in the last of four segments, reached through a landing pad of two words in the second.

@@ -3,6 +3,7 @@
 
 mod charges;
 mod earlier;
+mod exclusives;
 mod nodes;
 mod paths;
 

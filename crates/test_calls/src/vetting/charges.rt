@@ -1,22 +1,22 @@
 //! What paths arrive at, what views show there, and what it is charged, of messages that are known
 //! from outside. `tests/nodes.py` has many more paths, from C.
 
-use crate::held::message;
+use crate::held::{in_bytes, message};
 use crate::same::{same, same_of};
-use cap_frame::WordMessage;
-use cap_vet::{Budget, Kind, Reason, Step, View, get_charged};
+use cap_frame::{Segments, WordMessage};
+use cap_vet::{Budget, Kind, Place, Reason, Step, View, get_charged};
 use std::process::Abort;
 use std::test::Fail;
 
-// The kind of what a path arrives at, if it arrives at anything. Or the word of segment 0 that is
-// refused, why, and after how many pointers.
-type Seen = Result<Option<Kind>, (u32, Reason, u64)>;
+// The kind, the place and the first data word of what a path arrives at, if it arrives at anything. Or the
+// word of segment 0 that is refused, why, and after how many pointers.
+type Seen = Result<Option<(Kind, Option<Place>, Option<u64>)>, (u32, Reason, u64)>;
 
 // What a path arrives at, and what is left of a budget of `words` words.
-fn charged(message: &WordMessage, words: u64, depth: u32, path: &[Step]) -> (Seen, u64) {
+fn charged<M: Segments>(message: &M, words: u64, depth: u32, path: &[Step]) -> (Seen, u64) {
     let mut budget = Budget::new(words);
     let answer = match get_charged(message, &mut budget, depth, path) {
-        Ok(Some(view)) => Ok(Some(view.kind())),
+        Ok(Some(view)) => Ok(Some((view.kind(), view.place(), view.data_word(0)))),
         Ok(None) => Ok(None),
         Err(refusal) => Err((refusal.word, refusal.reason, refusal.pointers)),
     };
@@ -48,6 +48,16 @@ const P0: Step = Step::Ptr(0);
 
 const ITSELF: &[&[u64]] = &[&[0xfcffffff00000100]];
 
+const THE_SAME: Seen = Ok(Some((
+    ONE_POINTER,
+    Some(Place {
+        segment: 0,
+        start: 0,
+        words: 1,
+    }),
+    None,
+)));
+
 const SHARED: &[&[u64]] = &[&[
     0x0000000000000200,
     0x0400000001000000,
@@ -63,6 +73,16 @@ const ELEMENTS: &[&[u64]] = &[&[
     0xff00000000000000,
 ]];
 
+const SECOND: Seen = Ok(Some((
+    ONE_WORD,
+    Some(Place {
+        segment: 0,
+        start: 3,
+        words: 1,
+    }),
+    Some(0),
+)));
+
 // A list of one struct, whose pointer leads to a struct of one word.
 const BELOW: &[&[u64]] = &[&[
     0x010000000f000000,
@@ -71,14 +91,34 @@ const BELOW: &[&[u64]] = &[&[
     0x2a00000000000000,
 ]];
 
+const ONLY: Seen = Ok(Some((
+    ONE_POINTER,
+    Some(Place {
+        segment: 0,
+        start: 2,
+        words: 1,
+    }),
+    None,
+)));
+
+const BELOW_IT: Seen = Ok(Some((
+    ONE_WORD,
+    Some(Place {
+        segment: 0,
+        start: 3,
+        words: 1,
+    }),
+    Some(42),
+)));
+
 const NONE: &[&[u64]] = &[&[0x0100000007000000, 0]];
 
 const NO_ROOT: &[&[u64]] = &[&[], &[0x0000000001000000, 42]];
 
 static CHARGES: [Row; 18] = [
     // A cycle is charged step by step.
-    (ITSELF, 10, 64, &[P0, P0, P0], Ok(Some(ONE_POINTER)), 6),
-    (ITSELF, 4, 4, &[P0, P0, P0], Ok(Some(ONE_POINTER)), 0),
+    (ITSELF, 10, 64, &[P0, P0, P0], THE_SAME, 6),
+    (ITSELF, 4, 4, &[P0, P0, P0], THE_SAME, 0),
     (
         ITSELF,
         3,
@@ -106,13 +146,13 @@ static CHARGES: [Row; 18] = [
     ),
     // Pointers up to a step that leads to no node are charged.
     (SHARED, 4, 64, &[Step::Ptr(5)], Ok(None), 2),
-    (ELEMENTS, 4, 64, &[Step::Item(1)], Ok(Some(ONE_WORD)), 0),
+    (ELEMENTS, 4, 64, &[Step::Item(1)], SECOND, 0),
     (ELEMENTS, 4, 64, &[Step::Item(2)], Ok(None), 0),
     // A message without a root is refused on each path.
     (NO_ROOT, 9, 64, &[], Err((0, Reason::NoRoot, 0)), 9),
     (NO_ROOT, 9, 64, &[P0], Err((0, Reason::NoRoot, 0)), 9),
     // Structs of a list are a level below it.
-    (BELOW, 9, 3, &[Step::Item(0), P0], Ok(Some(ONE_WORD)), 6),
+    (BELOW, 9, 3, &[Step::Item(0), P0], BELOW_IT, 6),
     (
         BELOW,
         9,
@@ -121,7 +161,7 @@ static CHARGES: [Row; 18] = [
         Err((2, Reason::DepthLimit, 2)),
         9,
     ),
-    (BELOW, 9, 2, &[Step::Item(0)], Ok(Some(ONE_POINTER)), 7),
+    (BELOW, 9, 2, &[Step::Item(0)], ONLY, 7),
     // The list alone is past the limit, since its struct is, whether or not a step leads to it.
     (BELOW, 9, 1, &[], Err((0, Reason::DepthLimit, 1)), 9),
     (
@@ -155,12 +195,21 @@ static CHARGES: [Row; 18] = [
 #[test]
 fn pointers_are_charged_and_levels_counted(rt: HostRuntime) -> Result<(), Fail> {
     for (encoded, words, depth, path, expected, left) in &CHARGES {
-        let given = charged(&message(rt.alloc(), *encoded)?, *words, *depth, *path);
+        let several = message(rt.alloc(), *encoded)?;
+        let given = (
+            charged(&several, *words, *depth, *path),
+            charged(
+                &in_bytes(rt.alloc(), &several)?.view(),
+                *words,
+                *depth,
+                *path,
+            ),
+        );
         same_of(
             &rt,
             &(encoded, words, depth, path),
             given,
-            (*expected, *left),
+            ((*expected, *left), (*expected, *left)),
         );
     }
     Ok(())
@@ -170,7 +219,7 @@ fn pointers_are_charged_and_levels_counted(rt: HostRuntime) -> Result<(), Fail> 
 fn a_long_path_is_charged(rt: HostRuntime) -> Result<(), Fail> {
     let path = Vec::from_elem(rt.alloc(), P0, 1000)?;
     let given = charged(&message(rt.alloc(), ITSELF)?, u64::MAX, u32::MAX, &path);
-    same(&rt, given, (Ok(Some(ONE_POINTER)), u64::MAX - 1001));
+    same(&rt, given, (THE_SAME, u64::MAX - 1001));
     Ok(())
 }
 
