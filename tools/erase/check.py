@@ -26,9 +26,9 @@ PACKAGES = (
       *((f"capvet_core :: {name}", name) for name in LIBRARY.split()), *((f"crate :: {name}", name) for name in PROGRAM.split()))),
 )
 # Sources without a counterpart: theorems have no code, and stable Rust has no vectors.
-WITHOUT = {"cap_calls/laws.rt", "cap_calls/node_laws.rt", "cap_calls/packing_laws.rt",
+WITHOUT = {"cap_calls/laws.rt", "cap_calls/node_laws.rt", "cap_calls/packing_laws.rt", "cap_calls/pointer_laws.rt",
            "cap_pack/lanes/vectors.rt", "cap_pack/lanes/vectors/spread.rt", "cap_pack/lanes/vectors/squeeze.rt"}
-THEOREMS = "laws|node_laws|packing_laws"
+THEOREMS = "laws|node_laws|packing_laws|pointer_laws"
 
 WORDS = re.compile(r"""//[^\n]*|"(?:\\.|[^"\\])*"|'(?:\\.[^']*|[^'\\])'|\w+|->|=>|::|\.\.=|\.\.|&&|\|\||[=!<>]=|\S""")
 # What the source has more, or in another form. A `~` is words without a bracket or a semicolon.
