@@ -694,8 +694,9 @@ capvet_answer capvet_earlier_pointer(const uint8_t *bytes, size_t length, const 
  *   required         their length in bytes
  *
  * The text is the lines that the program's command `explain` writes after the line of the verdict, without the byte
- * in the input. They give the path to the pointer that capvet_vet names, and its place in bytes. Then come the
- * pointer word with its fields, where it leads, what is exceeded, and the reason as a sentence. docs/output.md
+ * in the input. They give the path to the pointer that capvet_vet names, and the place of its word as a byte of the
+ * message: byte 0 is the first byte of the segment table, or with CAPVET_NO_TABLE that of the first word. Then come
+ * the pointer word with its fields, where it leads, what is exceeded, and the reason as a sentence. docs/output.md
  * describes them. Each line begins with two blanks and ends with a line feed. The text is ASCII, and has no zero
  * byte at its end.
  *

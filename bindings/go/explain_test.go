@@ -21,7 +21,7 @@ func TestExplain(t *testing.T) {
 			"  leads into segment 0, words 1\n  reason the target runs past the end of its segment\n", nil},
 		{"no root", framed(), capvet.Limits{},
 			"  reason segment 0 has no words, so the message has no root pointer\n", nil},
-		{"a list without a table", amplified[8:], capvet.Limits{NoTable: true}, "  path /\n  byte 8 of the message\n" +
+		{"a list without a table", amplified[8:], capvet.Limits{NoTable: true}, "  path /\n  byte 0 of the message\n" +
 			"  pointer 0100000010800000 list of empty elements, offset 0, elements 4098\n  target 0:1, words 0\n" +
 			"  leads into segment 0, words 1\n  charge up to here 4098, limit 4097\n" +
 			"  reason the charge up to this pointer and its target is more than the limit\n", nil},

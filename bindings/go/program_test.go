@@ -167,8 +167,9 @@ func frames(t *testing.T) (messages [][]byte) {
 	return messages
 }
 
-// ofInput is what the program says of a byte and the library doesn't, which explains one message.
-var ofInput = regexp.MustCompile(`, byte \d+ of the input`)
+// byProgram is what the program says and the library doesn't, which explains one message by its limits: the byte in the input,
+// and why filter refuses a message that these limits accept.
+var byProgram = regexp.MustCompile(`, byte \d+ of the input|(?m)^  filter, .*\n(?:  .*\n)*`)
 
 func TestExplanationsAsTheProgram(t *testing.T) {
 	messages := append(changed(*count), frames(t)...)
@@ -192,7 +193,7 @@ func TestExplanationsAsTheProgram(t *testing.T) {
 			}
 		}
 		want, _, _ := run(t, stream.Bytes(), append([]string{"explain"}, it.options...)...)
-		want = ofInput.ReplaceAllString(want, "")
+		want = byProgram.ReplaceAllString(want, "")
 		if text.String() != want || !strings.Contains(want, "  reason ") {
 			t.Errorf("%v: the lines of %d bytes differ from those of the program, of %d", it.options, text.Len(), len(want))
 		}

@@ -21,6 +21,7 @@ import dataclasses
 import io
 import pickle
 import random
+import re
 import struct
 import sys
 import time
@@ -131,6 +132,8 @@ def check_explained(data, limits, report):
         return
     path = report.path(data, limits=limits)
     assert lines.startswith("  " if path is None else f"  path {path}\n") and lines.endswith("\n")
+    place = re.search(r"^  byte (\d+) of the message\n  pointer (\w{16}) ", lines, re.M)
+    assert place is None or bytes(data[int(place[1]):][:8]).hex() == place[2]
     *before, last = lines.splitlines()
     assert all(line.startswith("  ") and line.isascii() for line in before) and last.startswith("  reason ")
 

@@ -246,6 +246,8 @@ test("a refusal is explained", () => {
   const lines = ["path /p0/i0/p0", "byte 64 of the message", "pointer bd0040000a010000 list of bytes, offset 1048623, elements 33",
     "target 0:1048631 to 0:1048635, words 5", "leads into segment 0, words 392", "reason the target runs past the end of its segment"];
   assert.equal(capvet.explain(damaged), lines.map((it) => `  ${it}\n`).join(""));
+  lines[1] = "byte 56 of the message";
+  assert.equal(capvet.explain(damaged.subarray(8), { noTable: true }), lines.map((it) => `  ${it}\n`).join(""));
   assert.match(capvet.explain(sample("cycle.bin"), { depth: 9 }), /^  level 10, limit 9$/m);
   assert.equal(capvet.explain(four, { allowTrailing: true }), null);
   assert.equal(thrown(() => capvet.explain(four)).reason, "Trailing");

@@ -29,8 +29,9 @@ def explained(messages, limits):
 def test_as_the_program(limits, options):
     messages = [bytes(it.raw) for file in FILES for it in capvet.messages(file.read_bytes())] + many(max(CASES, 2000))
     text = program("explain", *options, data=b"".join(messages))[0].decode()
-    # (the library explains one message, which is in no input)
+    # (the library explains one message, which is in no input, and only if it refuses it by these limits)
     text = re.sub(r", byte \d+ of the input", "", text)
+    text = re.sub(r"^  filter, .*\n(  .*\n)*", "", text, flags=re.M)
     expected = re.split(r"^message .*\n", text, flags=re.M)[1:]
     assert len(expected) == len(messages) and 0 < expected.count("") < len(expected)
     assert explained(messages, limits) == expected
@@ -39,7 +40,8 @@ def test_as_the_program(limits, options):
 def test_lines():
     for buffer in (AMPLIFIED, bytearray(AMPLIFIED), memoryview(AMPLIFIED)):
         assert capvet.explain(buffer) == LINES
-    assert capvet.explain(AMPLIFIED[8:], limits=capvet.Limits(no_table=True)) == LINES
+    # (without a table the pointer is at the first byte)
+    assert capvet.explain(AMPLIFIED[8:], limits=capvet.Limits(no_table=True)) == LINES.replace("byte 8", "byte 0")
     assert capvet.explain(AMPLIFIED, limits=LAX) is None
 
 

@@ -1,5 +1,5 @@
 -- The lines that explain a refusal (profile).
-use Rattle.std.specs.Prelude.{Bool, List, None, Option, Some, [], codes, decimal, if◌then◌else◌, length, min, nat_lt, ℕ, ◌*◌, ◌++◌}
+use Rattle.std.specs.Prelude.{Bool, List, None, Option, Some, [], codes, decimal, if◌then◌else◌, length, min, nat_lt, true, ℕ, ◌*◌, ◌++◌}
 use Rattle.std.specs.Prelude.{◌+◌, ◌-◌, ◌==◌, ◌^◌, ◌∷◌}
 use Rattle.cap_spec.specs.Messages.{segment_of}
 use Rattle.cap_spec.specs.PathTexts.{path_text}
@@ -32,9 +32,9 @@ input_text (Some start) byte =
     (codes ", byte " ++ decimal (min (start.byte + byte) (2 ^ 64 - 1))) ++ of_unpacked_input start.packed
 
 -- where the pointer word is
-abbrev pub byte_line : List (List ℕ) → Option MessageStart → ℕ → ℕ → List ℕ
-byte_line m start s w = (codes "  byte " ++ decimal (byte_of m s w))
-    ++ (codes " of the message" ++ (input_text start (byte_of m s w) ++ 10 ∷ []))
+abbrev pub byte_line : List (List ℕ) → Numbers → ℕ → ℕ → List ℕ
+byte_line m k s w = (codes "  byte " ++ decimal (byte_of k.has_table m s w))
+    ++ (codes " of the message" ++ (input_text k.start (byte_of k.has_table m s w) ++ 10 ∷ []))
 
 -- a word, and its form with the fields
 abbrev pub word_text : ℕ → List ℕ
@@ -99,10 +99,9 @@ abbrev pub segment_line : List (List ℕ) → ℕ → List ℕ
 segment_line m s = (codes "  leads into segment " ++ decimal s) ++ segment_state m s ++ 10 ∷ []
 
 -- the lines on the pointer p at word w of segment s, by its landing pad and its target
-abbrev pub pointer_lines : List (List ℕ) → Option MessageStart → ℕ → ℕ → ℕ → Landing → Option Target
-    → List ℕ
-pointer_lines m start s w p landing target =
-    byte_line m start s w ++ pointer_line p ++ landing_lines p landing ++ target_lines m target
+abbrev pub pointer_lines : List (List ℕ) → Numbers → ℕ → ℕ → ℕ → Landing → Option Target → List ℕ
+pointer_lines m k s w p landing target =
+    byte_line m k s w ++ pointer_line p ++ landing_lines p landing ++ target_lines m target
     ++ segment_line m (segment_after s p landing)
 
 -- the first level that is deeper than the limit, and the limit
@@ -152,7 +151,7 @@ reason_line fault landing target =
 abbrev pub lines_over : List (List ℕ) → Fault → ℕ → ℕ → Numbers → ℕ → Landing → Option Target
     → List ℕ
 lines_over m fault s w k p landing target =
-    (if names_pointer fault then pointer_lines m k.start s w p landing target else [])
+    (if names_pointer fault then pointer_lines m k s w p landing target else [])
     ++ excess_line m fault target k ++ reason_line fault landing target
 
 -- the lines by the word that is named, if it exists
@@ -200,4 +199,4 @@ explanation path m refusal k = path_lines path ++ refusal_lines m refusal k
 -- the lines that explain that a pointer overlaps
 abbrev pub overlap_explanation : Option (List Step) → List (List ℕ) → Option MessageStart → ℕ → ℕ → List ℕ
 overlap_explanation path m start s w = path_lines path
-    ++ lines_of m Overlap s w (record { words = 0; depth = 0; charge = None; start = start })
+    ++ lines_of m Overlap s w (record { words = 0; depth = 0; charge = None; has_table = true; start = start })

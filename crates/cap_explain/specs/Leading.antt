@@ -15,9 +15,13 @@ use Rattle.cap_explain.specs.declared.target.Target.{Target}
 abbrev pub word_of : List (List ℕ) → ℕ → ℕ → Option ℕ
 word_of m s w = slice_get (segment_of m s) w
 
--- the first byte of that word in the message, its segment table included
-abbrev pub byte_of : List (List ℕ) → ℕ → ℕ → ℕ
-byte_of m s w = 8 * (length m / 2 + 1 + start_of m s + w)
+-- the words of the segment table of a message, or none if the message has no table
+abbrev pub table_words : Bool → List (List ℕ) → ℕ
+table_words has_table m = if has_table then length m / 2 + 1 else 0
+
+-- the first byte of that word in the message, its segment table included if it has one
+abbrev pub byte_of : Bool → List (List ℕ) → ℕ → ℕ → ℕ
+byte_of has_table m s w = 8 * (table_words has_table m + start_of m s + w)
 
 -- the words of the frame of a message: its segment table, and the words of its segments
 abbrev pub frame_words : List (List ℕ) → ℕ

@@ -34,7 +34,7 @@ struct Pointer {
 fn push_pointer_lines<M: Segments>(
     text: &mut Explanation,
     message: &M,
-    start: Option<MessageStart>,
+    numbers: Numbers,
     pointer: Pointer,
     target: &Option<Target>,
 )
@@ -42,10 +42,10 @@ fn push_pointer_lines<M: Segments>(
     requires near { IfSome target.now (λ t. t.start < 2 ^ 34) }
     requires fits { length text.old + POINTER ≤ CAPACITY }
     ensures items { let p = pointer in text.new ≡ text.old ++ pointer_lines
-        (M.segments message.now) start p.segment p.word p.value p.landing target.now }
+        (M.segments message.now) numbers p.segment p.word p.value p.landing target.now }
     ensures few { length text.new ≤ length text.old + POINTER }
 {
-    push_byte_line(text, message, start, pointer.segment, pointer.word);
+    push_byte_line(text, message, numbers, pointer.segment, pointer.word);
     push_pointer_line(text, pointer.value);
     push_landing_lines(text, pointer.value, pointer.landing);
     push_target_lines(text, message, target);
@@ -69,7 +69,7 @@ fn push_lines<M: Segments>(
         (M.segments message.now) fault p.segment p.word numbers p.value p.landing target.now }
 {
     if names_pointer(fault) {
-        push_pointer_lines(text, message, numbers.start, pointer, target);
+        push_pointer_lines(text, message, numbers, pointer, target);
     }
     push_excess_line(text, message, fault, target, numbers);
     push_reason_line(text, fault, pointer.landing, target);
@@ -165,6 +165,7 @@ pub fn explain_overlap<M: Segments>(
         words: 0,
         depth: 0,
         charge: None,
+        has_table: true,
         start,
     };
     push_fault(text, message, Fault::Overlap, segment, word, numbers);

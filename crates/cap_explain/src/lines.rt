@@ -51,19 +51,19 @@ fn push_input_place(text: &mut Explanation, start: Option<MessageStart>, byte: u
 pub(crate) fn push_byte_line<M: Segments>(
     text: &mut Explanation,
     message: &M,
-    start: Option<MessageStart>,
+    numbers: Numbers,
     segment: u32,
     word: u32,
 )
     requires exists { segment < length (M.segments message.now) }
     requires fits { length text.old + LINE ≤ CAPACITY }
-    ensures items { text.new ≡ text.old ++ byte_line (M.segments message.now) start segment word }
+    ensures items { text.new ≡ text.old ++ byte_line (M.segments message.now) numbers segment word }
     ensures few { length text.new ≤ length text.old + LINE }
 {
-    let byte = byte_of(message, segment, word);
+    let byte = byte_of(message, numbers.has_table, segment, word);
     text.push_named(b"  byte ", byte);
     text.push_text(b" of the message");
-    push_input_place(text, start, byte);
+    push_input_place(text, numbers.start, byte);
     text.push_text(b"\n");
 }
 

@@ -1,6 +1,6 @@
 //! The words of a message by their places, and their bytes.
 
-ghost use Rattle.cap_explain.specs.Leading.{byte_of, frame_words, word_of};
+ghost use Rattle.cap_explain.specs.Leading.{byte_of, frame_words, table_words, word_of};
 ghost use Rattle.cap_vet.specs.Taken.{start_of};
 ghost use Rattle.std.specs.Prelude.{◌+◌, ◌*◌, ◌^◌, ◌<◌, ◌≡◌, ◌≤◌, length};
 
@@ -29,13 +29,25 @@ fn words_before<M: Segments>(message: &M, segments: u32) -> u64
     words
 }
 
-/// The first byte of word `w` of segment `s` in the message, its segment table included.
-pub(crate) fn byte_of<M: Segments>(message: &M, s: u32, w: u32) -> u64
-    requires { s < length (M.segments message.now) }
-    ensures { result ≡ byte_of (M.segments message.now) s w }
+/// The words of the segment table of a message, or none if the message has no table.
+fn table_words<M: Segments>(message: &M, has_table: bool) -> u64
+    ensures value { result ≡ table_words has_table (M.segments message.now) }
+    ensures few { result ≤ 257 }
 {
-    let table = u64::from(message.count() / 2 + 1);
-    8 * (table + words_before(message, s) + u64::from(w))
+    if has_table {
+        u64::from(message.count() / 2 + 1)
+    } else {
+        0
+    }
+}
+
+/// The first byte of word `w` of segment `s` in the message, its segment table included if it has
+/// one.
+pub(crate) fn byte_of<M: Segments>(message: &M, has_table: bool, s: u32, w: u32) -> u64
+    requires { s < length (M.segments message.now) }
+    ensures { result ≡ byte_of has_table (M.segments message.now) s w }
+{
+    8 * (table_words(message, has_table) + words_before(message, s) + u64::from(w))
 }
 
 /// How many words the frame of a message has: its segment table, and the words of its segments

@@ -3,7 +3,7 @@ use Rattle.cap_spec.specs.declared.Step.{Step}
 use Rattle.cap_spec.specs.declared.Refusal.{Refusal}
 use Rattle.cap_spec.specs.declared.StrictRefusal.{StrictRefusal}
 use Rattle.cap_spec.specs.declared.StrictRefusal.TheVariants.{Refused}
-use Rattle.cap_spec.proofs.ProofNames.{List, Option, Some, codes, inr, ℕ, ◌++◌, ◌≡◌, IsWithin}
+use Rattle.cap_spec.proofs.ProofNames.{List, Option, Some, codes, inr, true, ℕ, ◌++◌, ◌≡◌, IsWithin}
 use Rattle.cap_spec.proofs.ProofNames.{IsFirstOverlap, refused, vet_text, rules}
 use Rattle.cap_vet.specs.VetNames.{IsDemandFault, words_under, depth_of, words_of}
 use Rattle.cap_vet.specs.declared.demands.Demands.{Demands}
@@ -40,7 +40,7 @@ one_path_of demands m words depth r k f = search (rules, one_path demands m word
 pub same_numbers : (demands : Demands) (m : List (List ℕ)) (words depth : ℕ) (fault : StrictRefusal)
     (h : IsDemandFault demands m words depth fault) (start : Option MessageStart) (within : Limits) (k : Numbers)
     → words_of within ≡ words_under demands m words → depth_of within ≡ depth → k.words ≡ words_of within → k.depth ≡ depth_of within
-    → ChargeOf m (words_of within) (depth_of within) fault k.charge → k.start ≡ start
+    → ChargeOf m (words_of within) (depth_of within) fault k.charge → k.has_table ≡ true → k.start ≡ start
     → k ≡ fault_numbers demands m words depth fault h start
-same_numbers demands m words depth fault h start within k w d kw kd c s =
+same_numbers demands m words depth fault h start within k w d kw kd c t s =
     search (rules, charge_is demands m words depth fault (one_path_of demands m words depth) h k.charge, one_path_of demands m words depth)

@@ -1,5 +1,5 @@
 -- What may be written of a message whose refusal is explained (profile).
-use Rattle.std.specs.Prelude.{Bool, List, None, Option, Some, [], codes, ℕ, ◌*◌, ◌++◌, ◌≡◌, ◌⊎◌}
+use Rattle.std.specs.Prelude.{Bool, List, None, Option, Some, [], codes, true, ℕ, ◌*◌, ◌++◌, ◌≡◌, ◌⊎◌}
 use Rattle.cap_spec.specs.SpecNames.{IsDisjoint, IsFirstOverlap, refused, strict_verdict, vet_text}
 use Rattle.cap_spec.specs.declared.Step.{Step}
 use Rattle.cap_spec.specs.declared.StrictRefusal.{StrictRefusal}
@@ -33,6 +33,7 @@ fault_numbers demands m words depth fault h start = record {
   words = words_under demands m words;
   depth = depth;
   charge = fault_charge demands m words depth fault h;
+  has_table = true;
   start = start;
 }
 

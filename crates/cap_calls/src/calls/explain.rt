@@ -56,19 +56,25 @@ pub fn explain(
     ensures few { required.new ≤ 6144 }
 {
     let whole = !limits.allows_trailing();
-    let (answer, count) = over_input(&Explaining, whole, bytes, limits, text, report);
+    let call = Explaining {
+        has_table: !limits.has_no_table(),
+    };
+    let (answer, count) = over_input(&call, whole, bytes, limits, text, report);
     *required = count;
     answer
 }
 
-// The call on a message.
-struct Explaining;
+// The call on a message, which has a segment table or not.
+#[derive(Clone, Copy, Drop)]
+struct Explaining {
+    has_table: bool,
+}
 
 impl Call for Explaining {
     type Item = u8;
 
-    ghost finds = { λ _ demands m words depth old f new.
-        FindsFewLines old new demands m words depth f };
+    ghost finds = { λ e demands m words depth old f new.
+        FindsFewLines e.has_table old new demands m words depth f };
 
     #[inline(never)]
     fn on<'b>(
@@ -81,7 +87,7 @@ impl Call for Explaining {
     ) -> Found {
         match vet_with(view, limits, demands) {
             Ok(_) => path_answer(Answer::NoNode),
-            Err(refusal) => explained(view, refusal, limits, demands, out),
+            Err(refusal) => explained(view, refusal, limits, demands, self.has_table, out),
         }
     }
 }
@@ -93,19 +99,20 @@ fn explained<'b>(
     refusal: StrictRefusal,
     limits: Limits,
     demands: Demands,
+    has_table: bool,
     out: &mut [u8],
 ) -> Found
     ensures lines { let m = ⟦<ByteView<'b> as Segments>⟧.segments view.now in
         (h : IsDemandFault demands m (words_of limits) (depth_of limits) refusal) →
-        ReportsText (fault_lines demands m (words_of limits) (depth_of limits) refusal h) out.old
-        result.answer result.count out.new }
+        ReportsText (fault_lines has_table demands m (words_of limits) (depth_of limits) refusal h)
+        out.old result.answer result.count out.new }
     ensures few { result.count ≤ 6144 }
     ensures report { result.report ≡ refused_report refusal }
 {
     let mut path = NamedPath::new();
     path.find_refused(view, limits, &refusal);
     let within = limits_under(view, limits, demands);
-    let numbers = numbers_of(view, &refusal, within);
+    let numbers = numbers_of(view, &refusal, within, has_table);
     let (answer, count) = put_lines(view, &refusal, numbers, &path, out);
     Found {
         answer,
@@ -116,17 +123,24 @@ fn explained<'b>(
 
 // The numbers of a message that is refused within limits, and isn't one of a stream.
 #[inline(never)]
-fn numbers_of<'b>(view: &ByteView<'b>, refusal: &StrictRefusal, limits: Limits) -> Numbers
+fn numbers_of<'b>(
+    view: &ByteView<'b>,
+    refusal: &StrictRefusal,
+    limits: Limits,
+    has_table: bool,
+) -> Numbers
     ensures words { result.words ≡ words_of limits }
     ensures depth { result.depth ≡ depth_of limits }
     ensures charge { let m = ⟦<ByteView<'b> as Segments>⟧.segments view.now in
         ChargeOf m (words_of limits) (depth_of limits) refusal.now result.charge }
+    ensures table { result.has_table ≡ has_table }
     ensures start { result.start ≡ None }
 {
     Numbers {
         words: limits.words(),
         depth: limits.depth(),
         charge: refusal_charge(view, refusal, limits),
+        has_table,
         start: None,
     }
 }

@@ -18,7 +18,7 @@ ghost use Rattle.cap_spec.specs.GreatestLimits.{most_depth};
 ghost use Rattle.cap_spec.specs.Texts.{refused, strict_verdict, vet_text};
 ghost use Rattle.cap_text.specs.Writing.{Writes, Wrote};
 ghost use Rattle.cap_vet.specs.Limits.{depth_of, words_of};
-ghost use Rattle.std.specs.Prelude.{◌++◌, ◌<◌, ◌^◌, ◌≡◌, List, codes, ℕ};
+ghost use Rattle.std.specs.Prelude.{◌++◌, ◌<◌, ◌^◌, ◌≡◌, List, codes, true, ℕ};
 
 use crate::engines::explaining::{PlacedJudge, explain_all};
 use crate::engines::passing::write_more;
@@ -70,12 +70,14 @@ fn numbers_of<M: Segments>(
     ensures depth { result.depth ≡ depth_of limits }
     ensures charge { ChargeOf (M.segments message.now) (words_of limits) (depth_of limits) refusal.now
         result.charge }
+    ensures table { result.has_table ≡ true }
     ensures start { result.start ≡ start }
 {
     Numbers {
         words: limits.words(),
         depth: limits.depth(),
         charge: refusal_charge(message, refusal, limits),
+        has_table: true,
         start,
     }
 }

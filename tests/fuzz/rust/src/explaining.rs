@@ -70,6 +70,20 @@ fn check_path_line(it: &Input, refusal: &Refusal, lines: &str) {
     }
 }
 
+/// The bytes at the place of the pointer are those of its word.
+fn check_place(it: &Input, lines: &str) {
+    let after = |name: &str| Some(lines.split_once(name)?.1);
+    let Some(place) = after("\n  byte ") else {
+        return;
+    };
+    let at: usize = place.split_once(' ').unwrap().0.parse().unwrap();
+    let word: String = it.bytes[at..at + 8]
+        .iter()
+        .map(|byte| format!("{byte:02x}"))
+        .collect();
+    assert!(after("\n  pointer ").unwrap().starts_with(&word));
+}
+
 /// An explanation is its lines, in each form.
 fn check_forms(explanation: &Explanation) {
     let lines = explanation.as_str();
@@ -92,7 +106,10 @@ pub fn explain(it: &Input, verdict: &Result<Report, VetError>) {
             assert_ne!(lines, "");
             check_forms(&explanation);
             match error {
-                VetError::Refused(refusal) => check_path_line(it, refusal, lines),
+                VetError::Refused(refusal) => {
+                    check_path_line(it, refusal, lines);
+                    check_place(it, lines);
+                }
                 other => assert_eq!(other.name(), "ManySegments"),
             }
         }

@@ -17,8 +17,8 @@ returns-clause-lines c = λ h.
     let refusal = c.args.refusal in
     let within = c.limits_under-within.ensures in
     let made = c.numbers_of-numbers in
-    let numbers = same_numbers demands m words depth refusal h c.limits_under-within.result made.result within.words within.depth
-    made.ensures.words made.ensures.depth made.ensures.charge made.ensures.start in
+    let numbers = same_numbers c.args.has_table demands m words depth refusal h c.limits_under-within.result made.result within.words within.depth
+    made.ensures.words made.ensures.depth made.ensures.charge made.ensures.table made.ensures.start in
     let lines = ap (λ path. explanation path m refusal made.result) (c.find_refused.ensures demands words h)
     ∙ ap (λ k. explanation (fault_path demands m words depth refusal h) m refusal k) numbers in
     subst (λ (text : List ℕ). ReportsText text c.args.out.now c.put_lines-answer.result.0 c.put_lines-answer.result.1 c.put_lines-answer.new.out)

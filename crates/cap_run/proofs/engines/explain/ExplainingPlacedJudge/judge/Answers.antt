@@ -44,7 +44,7 @@ returns-in-Err g c =
     let within = c.limits_under-limits.ensures in
     let numbers : c.numbers_of-numbers.result ≡ fault_numbers v.demands m words depth refusal is_fault (Some (start_after v.packed c.args.before)) =
     same_numbers v.demands m words depth refusal is_fault (Some (start_after v.packed c.args.before)) c.limits_under-limits.result c.numbers_of-numbers.result
-    within.words within.depth c.numbers_of-numbers.ensures.words c.numbers_of-numbers.ensures.depth c.numbers_of-numbers.ensures.charge
+    within.words within.depth c.numbers_of-numbers.ensures.words c.numbers_of-numbers.ensures.depth c.numbers_of-numbers.ensures.charge c.numbers_of-numbers.ensures.table
     (c.numbers_of-numbers.ensures.start ∙ ap (λ (s : MessageStart). Some s) c.start_after-start.ensures) in
     writes_text g.O.ByteOut (line ++ explanation c.find_refused.new.self m refusal c.numbers_of-numbers.result) Refused
     (OrFaultLines v.packed v.demands (g.T.PlacedPrinter.reports v.printer) words depth c.args.before c.args.number m)
