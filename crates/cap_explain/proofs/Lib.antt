@@ -2,3 +2,5 @@ pub mod Appends
 pub mod Charges
 pub mod Hexes
 pub mod Places
+pub mod Reasons
+pub mod Targets
