@@ -153,7 +153,7 @@ def explained(messages, folder, *options):
         if line.startswith("message "):
             text = line.partition(": ")[2]
             texts.append("accepted" if text.startswith("accepted") else text)
-        elif line.startswith("  path "):
+        elif line.startswith("  path ") and texts[-1] != "accepted":
             texts[-1] += line[1:]
     return texts
 

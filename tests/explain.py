@@ -6,7 +6,7 @@
 The verdict of a message is that of tests/model.py. The lines after it are written here as docs/output.md defines them, from
 the words of the message alone. Messages of a fixed seed are changed or made up: 6,000, or 100,000 with --full. Each
 goes through the program once with one of the lines of OPTIONS. Each reason has to be among the refusals, as often as LEAST says
-for 6,000 messages.
+for 6,000 messages. So have those for which `filter` refuses an accepted message, as often as FILTERED says.
 
 As many messages in which most pointers lead to words of one another go through the program with --exclusive. The
 first pointer that uses a word of an overlap is found here by its definition, from the words that each pointer uses.
@@ -15,8 +15,8 @@ Streams that break off go through the program too, plain and packed, a fifth as 
 with what this script finds in their bytes.
 
 tests/c/explain.c explains each of these messages too, with the limits and flags of the same options. Its buffers have various
-sizes, one of them just the length of the text. It writes the lines after that of the verdict. It looks for no overlap. The last line is 'N passed, M failed', and the
-status is 1 if a case failed.
+sizes, one of them just the length of the text. It writes the lines after that of the verdict. It looks for no overlap. Half of the
+messages of one segment have no table there. The last line is 'N passed, M failed', and the status is 1 if a case failed.
 """
 import random
 import re
@@ -46,6 +46,8 @@ OPTIONS = ("", "--strict --unamplified", "--exclusive", "--strict --exclusive", 
 LEAST = {"NoRoot": 5, "Reserved": 50, "SegmentMissing": 50, "PadOutside": 50, "PadIsFar": 5, "PadNotFar": 5, "TagKind": 5,
          "TagOffset": 5, "OutOfSegment": 100, "CompositeTag": 20, "CompositeOverrun": 20, "DepthLimit": 50, "WordLimit": 50,
          "ManySegments": 2, "NullPad": 5, "EmptySegment": 5, "CapabilityPad": 5, "Overlap": 20}
+# The reasons for which `filter` refuses messages that are accepted by the options of a run.
+FILTERED = {"WordLimit": 5, "ManySegments": 1, "NullPad": 5, "EmptySegment": 5, "CapabilityPad": 5}
 ELEMENTS = ("empty elements", "bits", "bytes", "2 bytes each", "4 bytes each", "8 bytes each", "pointers", "structs")
 # The sentences that depend on the reason alone.
 SENTENCES = {
@@ -179,11 +181,11 @@ def input_place(start, byte):
     return f", byte {start[0] + byte} of the {'unpacked ' * start[1]}input" if start else ""
 
 
-def pointer_lines(message, segment, at, start):
+def pointer_lines(message, segment, at, start, has_table):
     """The lines on a pointer word, its landing pad, and its target. `start` says where the message begins, and whether in a
-    packed input. It is None for a message in no input."""
+    packed input. It is None for a message in no input. `has_table` says whether a segment table comes first."""
     word = message[segment][at]
-    byte = 8 * (len(message) // 2 + 1 + sum(map(len, message[:segment])) + at)
+    byte = 8 * ((len(message) // 2 + 1 if has_table else 0) + sum(map(len, message[:segment])) + at)
     yield f"byte {byte} of the message{input_place(start, byte)}"
     yield f"pointer {hexed(word)} {form(word)}"
     landing = pads(message, word)
@@ -234,10 +236,10 @@ def earlier_lines(message, number):
             return
 
 
-def explanation(message, reason, segment, at, pointers, words, depth, start):
+def explanation(message, reason, segment, at, pointers, words, depth, start, has_table):
     if reason not in ("NoRoot", "ManySegments"):
         yield f"path {path_to(message, pointers)}"
-        yield from pointer_lines(message, segment, at, start)
+        yield from pointer_lines(message, segment, at, start, has_table)
     if reason == "CompositeOverrun":
         yield elements_line(message, segment, at)
     if reason == "DepthLimit":
@@ -249,25 +251,52 @@ def explanation(message, reason, segment, at, pointers, words, depth, start):
         yield from earlier_lines(message, pointers)
 
 
-def lines_of(number, message, options, start):
+def words_under(message, options, words):
+    """The limit of the charge."""
+    return min(words, sum(map(len, message)) + model.SLACK) if "--unamplified" in options else words
+
+
+def vetted(message, options, words, depth):
+    """The tree of a message, or the error of the first reason why it is refused."""
+    tree = model.vetted(message, words_under(message, options, words), depth)
+    if "--strict" in options:
+        model.strictly(message, tree)
+    if "--exclusive" in options:
+        model.exclusively(tree)
+    return tree
+
+
+def refused_lines(message, refused, options, words, depth, start, has_table):
+    """The reason of an error, what the line of `vet` says after it, and the lines that explain it."""
+    answer, segment, at, pointers = refused.args
+    reason = answer.title().replace("_", "") if answer.isupper() else answer
+    limit = words_under(message, options, words)
+    lines = explanation(message, reason, segment, at, pointers, limit, depth, start, has_table)
+    return reason, f"{reason} at {segment}:{at} pointers {pointers}", [f"  {it}" for it in lines]
+
+
+def filter_lines(message, words, depth, start, has_table):
+    """What comes after the line of an accepted message: why `filter` refuses it, if it does."""
+    options = ("--strict", "--unamplified")
+    try:
+        vetted(message, options, words, depth)
+    except model.Refused as refused:
+        _, what, lines = refused_lines(message, refused, options, words, depth, start, has_table)
+        return [f"  filter, the guard and the libraries refuse it: {what}", *lines]
+    return []
+
+
+def lines_of(number, message, options, start, has_table=True):
     """All lines of a message that begins there in an input, as in `pointer_lines`, and the reason if it is refused."""
     words = int(options[options.index("--words") + 1]) if "--words" in options else 8388608
     depth = int(options[options.index("--depth") + 1]) if "--depth" in options else 64
-    if "--unamplified" in options:
-        words = min(words, sum(map(len, message)) + model.SLACK)
     try:
-        tree = model.vetted(message, words, depth)
-        if "--strict" in options:
-            model.strictly(message, tree)
-        if "--exclusive" in options:
-            model.exclusively(tree)
+        tree = vetted(message, options, words, depth)
     except model.Refused as refused:
-        answer, segment, at, pointers = refused.args
-        reason = answer.title().replace("_", "") if answer.isupper() else answer
-        lines = explanation(message, reason, segment, at, pointers, words, depth, start)
-        return [f"message {number}: refused {reason} at {segment}:{at} pointers {pointers}", *(f"  {it}" for it in lines)], reason
+        reason, what, lines = refused_lines(message, refused, options, words, depth, start, has_table)
+        return [f"message {number}: refused {what}", *lines], reason
     return [f"message {number}: accepted charge {tree.charge} depth {tree.depth} pointers {tree.pointers} "
-            f"caps {tree.capabilities}"], "accepted"
+            f"caps {tree.capabilities}", *filter_lines(message, words, depth, start, has_table)], "accepted"
 
 
 # Messages
@@ -340,8 +369,9 @@ def messages():
             yield far_message(chance)
 
 
-def compare_lines(options, stream, first, seen):
-    """One run of the program over some messages, of which the first has this number in all."""
+def compare_lines(options, stream, first, seen, filtered):
+    """One run of the program over some messages, of which the first has this number in all. The reasons are counted in `seen`,
+    and in `filtered` those for which `filter` refuses an accepted message."""
     words = options.split()
     given = b"".join(stream)
     out, err, status = outputs([PROGRAM, "explain", *words], packed(given) if "--packed" in words else given)
@@ -352,6 +382,8 @@ def compare_lines(options, stream, first, seen):
         lines, reason = lines_of(number, segments_of(frame), words, (start, "--packed" in words))
         start += len(frame)
         reasons[reason] += 1
+        if reason == "accepted" and lines[1:]:
+            filtered[lines[1].split()[8]] += 1
         compare(f"capvet explain {options}, {frame.hex()[:400]}", "\n".join(lines) + "\n", text)
     compare(f"the status with {options}", int(reasons.total() > reasons["accepted"]), status)
     seen += reasons
@@ -362,7 +394,7 @@ def compare_overlaps(many):
     chance, seen = random.Random("overlaps"), Counter()
     stream = [shared(chance) for _ in range(many)]
     for at in range(0, many, RUN):
-        compare_lines("--exclusive", stream[at:at + RUN], at, seen)
+        compare_lines("--exclusive", stream[at:at + RUN], at, seen, Counter())
     print(f"overlaps: {seen['Overlap']} among {many} messages, {seen['accepted']} accepted")
     expect("overlaps among these messages", 2 * seen["Overlap"] >= many, seen)
 
@@ -464,37 +496,47 @@ def compare_breaks(stream, many):
     expect("each end of a stream", len(seen) >= 11 and min(seen.values()) >= many // 200, seen)
 
 
-def limits_of(words):
+def limits_of(words, has_table):
     """The limits and flags of a call by the options of a run."""
     flags = model.NONSTRICT * ("--strict" not in words) | model.AMPLIFIED * ("--unamplified" not in words)
+    flags |= model.NO_TABLE * (not has_table)
     charge, depth = (int(words[words.index(name) + 1]) if name in words else default
                      for name, default in (("--words", 8388608), ("--depth", 64)))
     return model.Limits(charge=charge, depth=depth, flags=flags)
 
 
-def reported_of(frame, words):
+def reported_of(frame, words, has_table):
     """The text on a message and the place of the refusal, or nothing and zeros if it is accepted."""
-    lines, reason = lines_of(0, segments_of(frame), words, None)
+    lines, reason = lines_of(0, segments_of(frame), words, None, has_table)
     if reason == "accepted":
         return "", (0, 0, 0)
     return "".join(f"{line}\n" for line in lines[1:]), tuple(map(int, re.findall(r"\d+", lines[0].partition(" at ")[2])))
 
 
+def input_of(frame, has_table):
+    """The bytes that a call gets of a message."""
+    return frame if has_table else frame[8:]
+
+
 def compare_calls(built, options, stream, first, chance):
-    """One run of tests/c/explain.c over some messages."""
+    """One run of tests/c/explain.c over some messages. Half of those of one segment, if it has words, have no table."""
     words = [word for word in options.split() if word != "--exclusive"]
-    texts, limits = [reported_of(frame, words) for frame in stream], limits_of(words)
+    tables = [len(frame) == 8 or frame[:4] != bytes(4) or chance.random() < 0.5 for frame in stream]
+    texts = [reported_of(frame, words, has_table) for frame, has_table in zip(stream, tables)]
     sizes = [chance.choice((BOUND, 1000, 400, 250, 90, 0, len(reported), max(len(reported) - 1, 0))) for reported, _ in texts]
+    inputs = [input_of(frame, has_table) for frame, has_table in zip(stream, tables)]
     out, err, status = over_file([built], b"".join(
-        limits.packed() + struct.pack("<3I", size, chance.randrange(8), len(frame)) + frame for size, frame in zip(sizes, stream)))
+        limits_of(words, has_table).packed() + struct.pack("<3I", size, chance.randrange(8), len(given)) + given
+        for size, given, has_table in zip(sizes, inputs, tables)))
     compare(f"capvet_explain, {options}: messages from {first}", (0, b""), (status, err))
+    expect("messages without a table", not all(tables), tables)
     at = 0
-    for frame, size, (reported, place) in zip(stream, sizes, texts):
+    for frame, given, size, (reported, place) in zip(stream, inputs, sizes, texts):
         expected = NO_NODE if not reported else OK if len(reported) <= size else BUFFER_TOO_SMALL
         fields = dict.fromkeys(model.FIELDS, 0) | dict(zip(("segment", "word", "pointers"), place))
-        fields |= dict(length=len(frame), segments=len(segments_of(frame)))
+        fields |= dict(length=len(given), segments=len(segments_of(frame)))
         reply = REPLY.pack(expected, len(reported), *fields.values(), 0, 0, 0, 0) + reported.encode() * (expected == OK)
-        compare(f"capvet_explain {options} {size}, {frame.hex()[:400]}", reply, out[at:at + len(reply)])
+        compare(f"capvet_explain {options} {size}, {given.hex()[:400]}", reply, out[at:at + len(reply)])
         at += len(reply)
     compare(f"capvet_explain, {options}: replies from {first}", at, len(out))
 
@@ -513,15 +555,18 @@ def explained_in_c(stream):
 
 
 def main():
-    seen, stream = Counter(), list(messages())
+    seen, filtered, stream = Counter(), Counter(), list(messages())
     for at in range(0, len(stream), RUN):
-        compare_lines(OPTIONS[at // RUN % len(OPTIONS)], stream[at:at + RUN], at, seen)
+        compare_lines(OPTIONS[at // RUN % len(OPTIONS)], stream[at:at + RUN], at, seen, filtered)
     compare_overlaps(MANY)
     explained_in_c(stream)
     compare_breaks(stream, MANY // 5)
     for reason, least in LEAST.items():
         expect(f"{reason} among the refusals", seen[reason] >= least, f"{seen[reason]} times, and not {least}")
+    for reason, least in FILTERED.items():
+        expect(f"accepted messages that filter refuses for {reason}", filtered[reason] >= least, filtered)
     print(", ".join(f"{reason} {count}" for reason, count in sorted(seen.items())))
+    print("refused by filter:", ", ".join(f"{reason} {count}" for reason, count in sorted(filtered.items())))
     return ended()
 
 

@@ -38,8 +38,9 @@ class Request:
 def written(words, stream):
     """What the program writes to standard output, and the first line of its standard error."""
     ran = subprocess.run([PROGRAM, *words.split()], input=stream, capture_output=True)
-    # (the library explains one message, which is in no input)
-    return re.sub(rb", byte \d+ of the input", b"", ran.stdout) + ran.stderr.split(b"\n")[0] + b"\n" * bool(ran.stderr)
+    # (the library explains one message, which is in no input, and only if it refuses it by these limits)
+    text = re.sub(rb"^  filter, .*\n(?:  .*\n)*", b"", ran.stdout, flags=re.M)
+    return re.sub(rb", byte \d+ of the input", b"", text) + ran.stderr.split(b"\n")[0] + b"\n" * bool(ran.stderr)
 
 
 def cut(chance, length):

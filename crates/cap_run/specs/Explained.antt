@@ -3,7 +3,7 @@ use Rattle.std.specs.Prelude.{Bool, List, None, Option, Some, [], codes, true, �
 use Rattle.cap_spec.specs.SpecNames.{IsDisjoint, IsFirstOverlap, refused, strict_verdict, vet_text}
 use Rattle.cap_spec.specs.declared.Step.{Step}
 use Rattle.cap_spec.specs.declared.StrictRefusal.{StrictRefusal}
-use Rattle.cap_vet.specs.VetNames.{IsDemandFault, words_under, depth_of, words_of, IsAccepted}
+use Rattle.cap_vet.specs.VetNames.{IsDemandFault, Meets, words_under, depth_of, words_of, IsAccepted}
 use Rattle.cap_vet.specs.declared.demands.Demands.{Demands}
 use Rattle.cap_vet.specs.declared.limits.Limits.{Limits}
 use Rattle.cap_vet.specs.declared.walk.vetting.Report.{Report}
@@ -14,12 +14,13 @@ use Rattle.cap_explain.specs.declared.numbers.Numbers.{Numbers}
 use Rattle.cap_trace.specs.EarlierPointers.{IsEarlierOf, earlier_path}
 use Rattle.cap_trace.specs.NamedPaths.{fault_path}
 use Rattle.cap_trace.specs.declared.earlier.EarlierPointer.{EarlierPointer}
+use Rattle.cap_text.specs.Lines.{filter_line}
 use Rattle.cap_run.specs.Demanding.{IsStrictUnder}
 use Rattle.cap_run.specs.Placed.{PlacedReports}
 use Rattle.cap_run.specs.Reporting.{Reports}
 use Rattle.cap_run.specs.Vetting.{ReportsAccepted}
 use Rattle.cap_run.specs.declared.engines.stream.Counted.{Counted}
-use Rattle.cap_run.specs.declared.engines.stream.Counted.TheVariants.{Refused}
+use Rattle.cap_run.specs.declared.engines.stream.Counted.TheVariants.{Accepted, NotCanonical, Refused}
 
 -- where a message begins before which there are this many words of an input
 abbrev pub start_after : Bool → ℕ → MessageStart
@@ -37,6 +38,13 @@ fault_numbers demands m words depth fault h start = record {
   start = start;
 }
 
+-- the lines that explain why a message that begins there doesn't meet the demands, the path first
+abbrev pub fault_lines : (demands : Demands) (m : List (List ℕ)) (words depth : ℕ) (fault : StrictRefusal)
+    → IsDemandFault demands m words depth fault → MessageStart → List ℕ
+fault_lines demands m words depth fault h start =
+    explanation (fault_path demands m words depth fault h) m fault
+    (fault_numbers demands m words depth fault h (Some start))
+
 -- The line of message n if it doesn't meet the demands, and the lines that explain the first reason.
 -- This number of words of the input is before the message.
 pub record ReportsFaultLines (packed : Bool) (demands : Demands) (words depth before n : ℕ) (m : List (List ℕ))
@@ -44,15 +52,48 @@ pub record ReportsFaultLines (packed : Bool) (demands : Demands) (words depth be
   pub fault : StrictRefusal
   pub is_fault : IsDemandFault demands m words depth fault
   pub lines : text ≡ vet_text n (strict_verdict fault)
-      ++ explanation (fault_path demands m words depth fault is_fault) m fault
-      (fault_numbers demands m words depth fault is_fault (Some (start_after packed before)))
+      ++ fault_lines demands m words depth fault is_fault (start_after packed before)
   pub counts : counted ≡ Refused
 
--- a text of a message that meets the demands, or those lines
+-- what filter, the guard and the libraries demand of a message
+abbrev pub filter_demands : Demands
+filter_demands = record { strict = true; unamplified = true }
+
+-- why filter, the guard and the libraries refuse a message under these limits, or that they accept it
+abbrev pub RefusedByFilter : List (List ℕ) → ℕ → ℕ → Option StrictRefusal → Type 0
+RefusedByFilter m words depth None = Meets filter_demands m words depth
+RefusedByFilter m words depth (Some fault) = IsDemandFault filter_demands m words depth fault
+
+-- the line that they refuse a message that begins there, and the lines that explain it, or nothing
+abbrev pub filter_lines : (m : List (List ℕ)) (words depth : ℕ) (start : MessageStart)
+    (refusal : Option StrictRefusal) → RefusedByFilter m words depth refusal → List ℕ
+filter_lines m words depth start None h = []
+filter_lines m words depth start (Some fault) h =
+    filter_line (strict_verdict fault) ++ fault_lines filter_demands m words depth fault h start
+
+-- what comes after the text of a message, by what is counted of it: those lines if it is accepted
+abbrev pub lines_after : (m : List (List ℕ)) (words depth : ℕ) (start : MessageStart)
+    (refusal : Option StrictRefusal) → RefusedByFilter m words depth refusal → Counted → List ℕ
+lines_after m words depth start refusal h Accepted = filter_lines m words depth start refusal h
+lines_after m words depth start refusal h Refused = []
+lines_after m words depth start refusal h NotCanonical = []
+
+-- One of these texts of a message, and what comes after it. This number of words of the input is before
+-- the message.
+pub record HasLinesAfter (packed : Bool) (words depth before : ℕ) (m : List (List ℕ))
+    (texts : List ℕ → Counted → Type 0) (text : List ℕ) (counted : Counted) : Type 0 where
+  pub first : List ℕ
+  pub is_first : texts first counted
+  pub refusal : Option StrictRefusal
+  pub is_refused : RefusedByFilter m words depth refusal
+  pub lines : text ≡ first
+      ++ lines_after m words depth (start_after packed before) refusal is_refused counted
+
+-- a text of a message that meets the demands, with what comes after it, or those lines
 abbrev pub OrFaultLines : Bool → Demands → (ℕ → ℕ → ℕ → Reports) → ℕ → ℕ → PlacedReports
 OrFaultLines packed demands reports words depth before n m text counted =
-    (IsStrictUnder demands m words depth
-    × reports before (words_under demands m words) depth n m text counted)
+    (IsStrictUnder demands m words depth × HasLinesAfter packed words depth before m
+    (reports before (words_under demands m words) depth n m) text counted)
     ⊎ ReportsFaultLines packed demands words depth before n m text counted
 
 -- under the limits of the charge and of the depth

@@ -2,7 +2,7 @@
 
 ghost use Rattle.cap_spec.specs.Texts.{check_text, lax_name, reason_name, refused, strict_verdict, then_number, vet_text};
 ghost use Rattle.cap_text.specs.FaultLines.{place_text};
-ghost use Rattle.cap_text.specs.Lines.{accepted_text};
+ghost use Rattle.cap_text.specs.Lines.{accepted_text, filter_line};
 ghost use Rattle.cap_text.specs.Writing.{Writes};
 ghost use Rattle.std.specs.Prelude.{◌+◌, ◌++◌, ◌≡◌, ◌≤◌, codes, length};
 
@@ -160,6 +160,39 @@ pub fn write_overlap<O: ByteOut>(
 {
     refused_line(page, number, b"Overlap", segment, word, pointers);
     write_bytes(out, page.text())
+}
+
+/// Writes the line that `filter`, the guard and the libraries refuse a message, with the reason and
+/// the place (docs/output.md, explain). It comes after the line of a message that is accepted. What
+/// the page held before isn't written.
+///
+/// # Errors
+///
+/// The error of the output, which took a prefix of the line.
+pub fn write_filtered<O: ByteOut>(
+    page: &mut Page,
+    out: &mut O,
+    refusal: &StrictRefusal,
+) -> Result<(), OutFault>
+    ensures { Writes O.ByteOut out.old out.new result (filter_line (strict_verdict refusal.now)) }
+{
+    let why = refused_for(refusal);
+    filtered_line(page, why.name, why.segment, why.word, why.pointers);
+    write_bytes(out, page.text())
+}
+
+/// Begins the page with the line of a message that `filter`, the guard and the libraries refuse, with
+/// the name of the reason and the place.
+fn filtered_line(page: &mut Page, name: &[u8], segment: u32, word: u32, pointers: u64)
+    requires short { length name.now ≤ NAME }
+    ensures { page.new ≡ filter_line (refused name.now segment word pointers) }
+{
+    page.clear();
+    page.push_text(b"  filter, the guard and the libraries refuse it: ");
+    page.push_text(name);
+    push_place(page, segment, word);
+    page.push_named(b" pointers ", pointers);
+    page.push_text(b"\n");
 }
 
 /// Begins the page with the line of a message that is refused, with the name of the reason and the

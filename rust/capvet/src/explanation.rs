@@ -122,6 +122,8 @@ mod tests {
         assert_eq!(lines(&AMPLIFIED, Limits::DEFAULT), expected);
         let debug = format!("{:?}", explain(&AMPLIFIED, Limits::DEFAULT));
         assert_eq!(debug, format!("Ok(Some(Explanation({expected:?})))"));
+        let words = lines(&AMPLIFIED[8..], Limits::DEFAULT.no_table(true));
+        assert_eq!(words, expected.replace("byte 8", "byte 0"));
     }
 
     #[test]

@@ -1,11 +1,11 @@
 //! The engines that write for each message whether it is accepted, and explain each refusal.
 
 ghost use Rattle.cap_explain.specs.Charges.{ChargeOf};
-ghost use Rattle.cap_explain.specs.Explaining.{explanation, overlap_explanation};
+ghost use Rattle.cap_explain.specs.Explaining.{overlap_explanation};
 ghost use Rattle.cap_frame.specs.Limit.{limit_of};
 ghost use Rattle.cap_run.specs.Demanding.{AllocatesIn, AllocatesMarksUnder};
 ghost use Rattle.cap_run.specs.Breaking.{ExplainsStream};
-ghost use Rattle.cap_run.specs.Explained.{IsOverlapText, OrFaultLinesIn, ReportsExplainedExclusiveUnder, ReportsExplainedUnder, ReportsMarkedLines, earlier_lines, start_after};
+ghost use Rattle.cap_run.specs.Explained.{HasLinesAfter, IsOverlapText, OrFaultLinesIn, RefusedByFilter, ReportsExplainedExclusiveUnder, ReportsExplainedUnder, ReportsMarkedLines, earlier_lines, fault_lines, filter_demands, filter_lines, start_after};
 ghost use Rattle.cap_run.specs.Running.{WritesOneOf};
 ghost use Rattle.cap_run.specs.Reporting.{AllocatesNone};
 ghost use Rattle.cap_run.specs.Vetting.{ReportsAccepted, AllocatesMarks};
@@ -17,6 +17,7 @@ ghost use Rattle.cap_vet.specs.Vettings.{message_of, report_of};
 ghost use Rattle.cap_spec.specs.GreatestLimits.{most_depth};
 ghost use Rattle.cap_spec.specs.Texts.{refused, strict_verdict, vet_text};
 ghost use Rattle.cap_text.specs.Writing.{Writes, Wrote};
+ghost use Rattle.cap_vet.specs.Demands.{IsDemandFault};
 ghost use Rattle.cap_vet.specs.Limits.{depth_of, words_of};
 ghost use Rattle.std.specs.Prelude.{◌++◌, ◌<◌, ◌^◌, ◌≡◌, List, codes, true, ℕ};
 
@@ -32,7 +33,9 @@ use cap_explain::{
 };
 use cap_frame::Segments;
 use cap_spec::StrictRefusal;
-use cap_text::{Cause, ExplainedFault, Page, write_accepted, write_overlap, write_refused};
+use cap_text::{
+    Cause, ExplainedFault, Page, write_accepted, write_filtered, write_overlap, write_refused,
+};
 use cap_trace::{EarlierPointer, NamedPath};
 use cap_vet::{Demands, ExclusiveRefusal, Limits, Vetted, limits_under, vet_with};
 use cap_words::{ByteOut, OutFault};
@@ -82,27 +85,73 @@ fn numbers_of<M: Segments>(
     }
 }
 
-/// Writes the line of a refused message, and the lines that explain the refusal.
-fn write_refusal<M: Segments, O: ByteOut>(
-    page: &mut Page,
+/// Writes the lines that explain why a message that begins at `start` doesn't meet demands, after a
+/// text that isn't empty.
+fn write_explanation<M: Segments, O: ByteOut>(
     out: &mut O,
-    number: u32,
     message: &M,
     refusal: &StrictRefusal,
-    numbers: Numbers,
-    path: &NamedPath,
+    limits: Limits,
+    demands: Demands,
+    start: MessageStart,
 ) -> Result<(), OutFault>
-    ensures { Writes O.ByteOut out.old out.new result
-        (vet_text number (strict_verdict refusal.now) ++ explanation path.now
-        (M.segments message.now) refusal.now numbers) }
+    ensures { let m = M.segments message.now in
+        (h : IsDemandFault demands m (words_of limits) (depth_of limits) refusal.now)
+        (before : O) (text : List ℕ) → Wrote O.ByteOut before out.old text →
+        Writes O.ByteOut before out.new result (text ++ fault_lines demands m (words_of limits)
+        (depth_of limits) refusal.now h start) }
 {
-    match write_refused(page, out, number, refusal) {
-        Ok(()) => {
-            let mut lines = Explanation::new();
-            explain(&mut lines, message, refusal, numbers, path.steps());
-            write_more(out, lines.text())
-        }
-        Err(fault) => Err(fault),
+    let mut path = NamedPath::new();
+    path.find_refused(message, limits, refusal);
+    let within = limits_under(message, limits, demands);
+    let numbers = numbers_of(message, refusal, within, Some(start));
+    let mut lines = Explanation::new();
+    explain(&mut lines, message, refusal, numbers, path.steps());
+    write_more(out, lines.text())
+}
+
+/// What `filter`, the guard and the libraries demand of a message.
+fn filter_demands() -> Demands
+    ensures { result ≡ filter_demands }
+{
+    Demands {
+        strict: true,
+        unamplified: true,
+    }
+}
+
+/// Why `filter`, the guard and the libraries refuse a message under these limits, if they do.
+fn filter_refusal<M: Segments>(message: &M, limits: Limits) -> Option<StrictRefusal>
+    ensures { RefusedByFilter (M.segments message.now) (words_of limits) (depth_of limits) result }
+{
+    match vet_with(message, limits, filter_demands()) {
+        Ok(_) => None,
+        Err(refusal) => Some(refusal),
+    }
+}
+
+/// Writes that `filter`, the guard and the libraries refuse a message that begins at `start`, and the
+/// lines that explain it, after the line of the message. Writes nothing if they accept it.
+fn write_filter_lines<M: Segments, O: ByteOut>(
+    page: &mut Page,
+    out: &mut O,
+    message: &M,
+    refusal: &Option<StrictRefusal>,
+    limits: Limits,
+    start: MessageStart,
+) -> Result<(), OutFault>
+    ensures { let m = M.segments message.now in
+        (h : RefusedByFilter m (words_of limits) (depth_of limits) refusal.now)
+        (before : O) (text : List ℕ) → Wrote O.ByteOut before out.old text →
+        Writes O.ByteOut before out.new result (text ++ filter_lines m (words_of limits)
+        (depth_of limits) start refusal.now h) }
+{
+    match refusal {
+        Some(refusal) => match write_filtered(page, out, refusal) {
+            Ok(()) => write_explanation(out, message, refusal, limits, filter_demands(), start),
+            Err(fault) => Err(fault),
+        },
+        None => Ok(()),
     }
 }
 
@@ -288,14 +337,74 @@ impl PlacedPrinter for OverlapPrinter {
     }
 }
 
-/// Vets a message under demands, and writes the text of its teller if the message meets them.
-/// Otherwise it explains the first reason why not.
+/// Vets a message under demands, and writes the text of its printer if the message meets them. After
+/// the line of an accepted message it explains why `filter`, the guard and the libraries refuse it.
+/// If the message doesn't meet the demands, it explains the first reason why not.
 #[derive(Clone, Copy)]
 struct Explaining<T> {
     limits: Limits,
     demands: Demands,
     packed: bool,
     printer: T,
+}
+
+impl<T: PlacedPrinter> Explaining<T> {
+    /// Writes the line of a message that doesn't meet the demands, and the lines that explain why.
+    fn write_refusal<M: Segments, O: ByteOut>(
+        &self,
+        page: &mut Page,
+        out: &mut O,
+        before: u64,
+        number: u32,
+        message: &M,
+        refusal: &StrictRefusal,
+    ) -> Result<(), OutFault>
+        requires { before < 2 ^ 61 }
+        ensures { let m = M.segments message.now in let s = self.now in
+            (h : IsDemandFault s.demands m (words_of s.limits) (depth_of s.limits) refusal.now) →
+            Writes O.ByteOut out.old out.new result (vet_text number (strict_verdict refusal.now)
+            ++ fault_lines s.demands m (words_of s.limits) (depth_of s.limits) refusal.now h
+            (start_after s.packed before)) }
+    {
+        match write_refused(page, out, number, refusal) {
+            Ok(()) => {
+                let start = start_after(self.packed, before);
+                write_explanation(out, message, refusal, self.limits, self.demands, start)
+            }
+            Err(fault) => Err(fault),
+        }
+    }
+
+    /// Writes the text of a message that meets the demands. If it is accepted, what comes after it says
+    /// why `filter`, the guard and the libraries refuse it.
+    fn print_met<M: Segments, O: ByteOut>(
+        &self,
+        page: &mut Page,
+        out: &mut O,
+        before: u64,
+        number: u32,
+        vetted: &Vetted<'_, M>,
+    ) -> Result<Counted, Cause>
+        requires { before < 2 ^ 61 }
+        ensures { (w : ℕ) (t : Tree) → let m = M.segments (message_of vetted.now) in let s = self.now in
+            let d = depth_of s.limits in IsReport m w d (report_of vetted.now) t →
+            WritesOneOf O.ByteOut (HasLinesAfter s.packed (words_of s.limits) d before m
+            (T.reports s.printer before w d number m)) (T.allocates s.printer w d m)
+            out.old out.new result }
+    {
+        let refusal = filter_refusal(vetted.message(), self.limits);
+        match self.printer.print(page, out, before, number, vetted) {
+            Ok(Counted::Accepted) => {
+                let start = start_after(self.packed, before);
+                let message = vetted.message();
+                let written = write_filter_lines(page, out, message, &refusal, self.limits, start);
+                after_text(written, Counted::Accepted)
+            }
+            Ok(Counted::Refused) => Ok(Counted::Refused),
+            Ok(Counted::NotCanonical) => Ok(Counted::NotCanonical),
+            Err(cause) => Err(cause),
+        }
+    }
 }
 
 impl<T: PlacedPrinter> PlacedJudge for Explaining<T> {
@@ -312,14 +421,9 @@ impl<T: PlacedPrinter> PlacedJudge for Explaining<T> {
         message: &M,
     ) -> Result<Counted, Cause> {
         match vet_with(message, self.limits, self.demands) {
-            Ok(vetted) => self.printer.print(page, out, before, number, &vetted),
+            Ok(vetted) => self.print_met(page, out, before, number, &vetted),
             Err(refusal) => {
-                let mut path = NamedPath::new();
-                path.find_refused(message, self.limits, &refusal);
-                let limits = limits_under(message, self.limits, self.demands);
-                let start = start_after(self.packed, before);
-                let numbers = numbers_of(message, &refusal, limits, Some(start));
-                let written = write_refusal(page, out, number, message, &refusal, numbers, &path);
+                let written = self.write_refusal(page, out, before, number, message, &refusal);
                 after_text(written, Counted::Refused)
             }
         }
