@@ -56,15 +56,15 @@ def encoded(text):
     return text.encode() if isinstance(text, str) else text
 
 
-def case(words, out="", err="", status=0, stdin=b"", stdout=subprocess.PIPE):
+def case(words, out="", err="", status=0, stdin=b"", stdout=subprocess.PIPE, shown=""):
     """The program with these arguments, split at spaces where they are a text. Where a `stdout` is given, what the
-    program writes to it isn't looked at. A case that was run before isn't run again."""
+    program writes to it isn't looked at. A case that was run before isn't run again. `shown` is what it shows."""
     words = tuple(words.split() if isinstance(words, str) else words)
     expected = encoded(out), encoded(err), status
     if stdout == subprocess.PIPE and (words, stdin, expected) in DONE:
         return
     DONE.add((words, stdin, expected))
-    name = "capvet " + " ".join(it if isinstance(it, str) else repr(it) for it in words)
+    name = (f"{shown}: " if shown else "") + "capvet " + " ".join(it if isinstance(it, str) else repr(it) for it in words)
     if stdin:
         name += f", of {stdin[:80].hex()}"
     if stdout != subprocess.PIPE:
@@ -417,6 +417,24 @@ for table in (tables.VERDICTS, tables.OTHER_LIMITS, tables.ENDS, tables.MESSAGES
 for table in (tables.LEVELS, tables.NESTED, tables.LEVELS_WITH_A_POINTER_LEFT, tables.OVERLAPS, tables.DUMPS, tables.GETS, tables.LADDER,
               tables.AFTER_A_REFUSAL, tables.COPY_ENDS, demands.ROWS, filtering.WHOLE, filtering.FORMS):
     rows(table, also_packed=True)
+for shown, row in tables.SHOWN.items():
+    case(row.words, row.out, row.err, row.status, word(row.stream), shown=shown)
+for row in tables.ENDS:
+    for command in BRIEF:
+        case(row.words.replace("vet", command, 1), row.out, row.err, row.status, word(row.stream))
+
+
+def named_files():
+    """Files by their names, in the folder of the run. Standard input has something else."""
+    for name, digits, words, out in tables.FILES:
+        with tempfile.TemporaryDirectory() as folder:
+            (Path(folder) / name).write_bytes(word(digits))
+            compare(f"capvet {' '.join(words)}", (encoded(out), b"", 0), outputs([PROGRAM, *words], NULL, cwd=folder))
+
+
+named_files()
+
+
 def overlaps(stream, overlap):
     """An accepted message, and what `vet --exclusive` writes of it: the overlap, or what `vet` writes."""
     text, err, status = outputs([PROGRAM, "vet"], stream)
@@ -639,35 +657,43 @@ many_messages()
 tagged_sips()
 
 # ------------------------------------------------------------------ paths, which are read before any input is opened
-def bad_path(at, path):
-    return f"capvet: bad path at {at}\ncapvet: the path is '{path}'; the order is 'capvet get PATH FILE'\n"
+def bad_path(at):
+    return f"capvet: bad path at {at}\n"
 
 
 for path, at in tables.BAD_PATHS:
     for words in (["get", path], ["get", "--packed", path, "examples/missing.bin"]):
-        case(words, err=bad_path(at, path), status=2, stdin=NULL)
+        case(words, err=bad_path(at), status=2, stdin=NULL)
 case("get /p0", "message 0: none\n", stdin=NULL)
 # Paths to the deepest node of a message of 64 levels, and of 10,000 steps.
 CHAIN = word(tables.MOST_LEVELS)
 case(["get", 63 * "/p0"], "message 0: found\nnode struct 0 0\n", stdin=CHAIN)
 case(["get", 10000 * "/p0"], "message 0: none\n", stdin=CHAIN)
-case(["get", 9999 * "/p0" + "/p65536"], err=bad_path(30003, 9999 * "/p0" + "/p65536"), status=2, stdin=CHAIN)
-case("get examples/shared.bin /p0", err=bad_path(0, "examples/shared.bin"), status=2, stdin=NULL)
+case(["get", 9999 * "/p0" + "/p65536"], err=bad_path(30003), status=2, stdin=CHAIN)
+case("get examples/shared.bin /p0", err=bad_path(0), status=2, stdin=NULL)
 
 # ------------------------------------------------------------------ files and devices
-def cannot_open(name):
-    return f"capvet: cannot open {name}\ncapvet: No such file or directory (os error 2)\n"
+# The commands that write the system's reason after the line of a fault. The others write one line.
+REASONED = ("explain", "filter")
 
 
-IS_DIRECTORY = "capvet: Is a directory (os error 21)\n"
+def reason(command, text):
+    """The line of the system's reason, where a command writes it."""
+    return f"capvet: {text}\n" if command.split()[0] in REASONED else ""
+
+
+def cannot_open(command, name):
+    return f"capvet: cannot open {name}\n" + reason(command, "No such file or directory (os error 2)")
+
+
 FAILED = "capvet: output failed\n"
 LONG = NULL * 20000
 for command in RUNS:
-    case(f"{command} examples/missing.bin", err=cannot_open("examples/missing.bin"), status=3, stdin=NULL)
-    case(f"{command} -", err=cannot_open("-"), status=3, stdin=NULL)
-    at = "" if command.endswith("pack") else "message 0: "
-    case(f"{command} examples", err=f"capvet: {at}Device\n" + IS_DIRECTORY, status=3, stdin=NULL)
-    not_blocking(command, f"capvet: {at}Device\ncapvet: Resource temporarily unavailable (os error 11)\n")
+    case(f"{command} examples/missing.bin", err=cannot_open(command, "examples/missing.bin"), status=3, stdin=NULL)
+    case(f"{command} -", err=cannot_open(command, "-"), status=3, stdin=NULL)
+    device = "capvet: Device\n" if command.endswith("pack") else "capvet: message 0: Device\n"
+    case(f"{command} examples", err=device + reason(command, "Is a directory (os error 21)"), status=3, stdin=NULL)
+    not_blocking(command, device + reason(command, "Resource temporarily unavailable (os error 11)"))
 with open("/dev/full", "wb") as full:
     for stdout in (full, closed_pipe()):
         for command in (*READERS, "pack"):
@@ -841,7 +867,7 @@ for words, text in tables.MISTAKES:
 for words, beginning in tables.MISTAKE_BEGINNINGS:
     mistake_beginning(words, beginning)
 for words, name in tables.NAMES:
-    case(words, err=cannot_open(name), status=3, stdin=NULL)
+    case(words, err=cannot_open(words, name), status=3, stdin=NULL)
 for lines, text in HELPS:
     for words in lines:
         case(words, text)

@@ -763,6 +763,88 @@ WORDS = (
         "root none\n"),
 )
 
+# One case for each thing that a command does with a stream, or writes of a fault, by what it shows. The whole of both outputs and
+# the status are compared: the eight commands without `explain` and `filter` write one line for a fault, and nothing after it.
+SHOWN = {
+    "a refused message, and the numbers of the next ones, before a fault": Row(
+        "vet", f"{SHARED} {CYCLE} {NULL} ffffffff00000000",
+        "message 0: accepted charge 4 depth 2 pointers 3 caps 0\n"
+        "message 1: refused DepthLimit at 0:0 pointers 65\n"
+        "message 2: accepted charge 0 depth 0 pointers 1 caps 0\n",
+        "capvet: message 3: TooManySegments 4294967296\n", 1),
+    "a message of each verdict": Row(
+        "check", f"{STRUCT} {CYCLE} {LONG}",
+        "message 0: canonical\nmessage 1: refused DepthLimit at 0:0 pointers 65\nmessage 2: not canonical\n", status=1),
+    "a dump goes on after a refused message": Row(
+        "dump", f"{CYCLE} {NULL}",
+        "message 0: refused DepthLimit at 0:0 pointers 65\nmessage 1: accepted charge 0 depth 0 pointers 1 caps 0\nroot null\n",
+        status=1),
+    "a node is found after a refused message": Row(
+        "get /", f"{CYCLE} {NULL}", "message 0: refused DepthLimit at 0:0 pointers 65\nmessage 1: found\nnode null\n", status=1),
+    "copies before a message that is cut": Row("canon", f"{LONG} 00000000", word(SHORT), "capvet: message 1: Truncated at byte 36\n", 1),
+    "copies before a capability": Row("canon", f"{LONG} {CAPABILITY}", word(SHORT), "capvet: message 1: HasCapability at 0:0\n", 1),
+    "copies before a refused message": Row("canon", f"{LONG} {CYCLE}", word(SHORT), "capvet: message 1: refused DepthLimit at 0:0\n", 1),
+    "no copy without a root": Row("canon", "0000000000000000", "", "capvet: message 0: refused NoRoot at 0:0\n", 1),
+    "no verdict on the form without a root": Row("check", "0000000000000000", "message 0: refused NoRoot at 0:0 pointers 0\n", status=1),
+    "a message with a capability is not canonical": Row("check", CAPABILITY, "message 0: not canonical\n", status=1),
+    "whole words before a part of one": Row("pack", f"{STRUCT} 0102", word("1002 1001 012a"), "capvet: Truncated at byte 26\n", 1),
+    "whole groups before a part of one": Row("unpack", "1002 1001 012a 00", word(STRUCT), "capvet: Truncated at byte 7\n", 1),
+    "a packed message of one zero word": Row("segments --packed", "10010000",
+                                             "message 0: segments 1 words 1\nsegment 0: 1\nroot 0000000000000000\n"),
+    "a missing segment goes before the pad in another": Row(
+        "vet", "0100000001000000 0100000000000000 0200000007000000 ffffffffffffffff",
+        "message 0: refused SegmentMissing at 0:0 pointers 1\n", status=1),
+    "a pad outside its segment goes before its word": Row(
+        "vet", "0100000001000000 0100000000000000 0600000001000000 0200000000000000",
+        "message 0: refused PadOutside at 0:0 pointers 1\n", status=1),
+    "a reserved word in a pad": Row("vet", "0100000001000000 0100000000000000 0200000001000000 0700000005000000",
+                                    "message 0: refused Reserved at 0:0 pointers 1\n", status=1),
+    "a missing segment that a pad of two words names": Row(
+        "vet", "0100000001000000 0200000000000000 0600000001000000 0200000007000000 0000000001000000",
+        "message 0: refused SegmentMissing at 0:0 pointers 1\n", status=1),
+    "a pad of two words in one of two": Row(
+        "vet", "0100000001000000 0200000000000000 0600000001000000 0600000001000000 0000000001000000",
+        "message 0: refused PadNotFar at 0:0 pointers 1\n", status=1),
+    "a pad of two words into its own segment": Row(
+        "vet", "0100000001000000 0200000000000000 0600000001000000 0200000001000000 0000000001000000",
+        "message 0: accepted charge 3 depth 1 pointers 1 caps 0\n"),
+    "a struct that is its own pointer": Row("vet", "0100000001000000 0100000000000000 fcffffff01000000 0000000000000000",
+                                            "message 0: accepted charge 1 depth 1 pointers 1 caps 0\n"),
+    "a struct that begins before its segment": Row("vet", "0100000001000000 0100000000000000 f8ffffff00000000 0000000000000000",
+                                                   "message 0: refused OutOfSegment at 0:0 pointers 1\n", status=1),
+    "a list without structs is charged its tag": Row("vet", NO_STRUCTS, "message 0: accepted charge 1 depth 1 pointers 1 caps 0\n"),
+    "a list without structs is canonical": Row("check", NO_STRUCTS, "message 0: canonical\n"),
+    "a list of structs without words is canonical": Row("check", FIVE_EMPTIES, "message 0: canonical\n"),
+    "an element past the end": Row("get /i4294967295", SHARED, "message 0: none\n"),
+    "the greatest size of an empty stream": Row("segments --size 268435456", "", ""),
+    "the least size of an empty stream": Row("segments --size 0", "", ""),
+    "the greatest limits": Row("vet --words 268435456 --depth 256 --size 268435456", "", ""),
+    "the least limits": Row("vet --words 0 --depth 0 --size 0", "", ""),
+    "limits after an equals sign": Row("vet --words=0 --depth=0", "", ""),
+    "a limit of a dump": Row("dump --words 0", "", ""),
+    "a limit of a check": Row("check --words 0", "", ""),
+    "a limit of copies": Row("canon --words 0", "", ""),
+    "a limit after a path": Row("get / --words 0", "", ""),
+    "a limit before a path": Row("get --depth 0 /", "", ""),
+    "a file that isn't there": Row("vet no-such-file", NULL, "", "capvet: cannot open no-such-file\n", 3),
+    "a file to pack that isn't there": Row("pack no-such-file", NULL, "", "capvet: cannot open no-such-file\n", 3),
+    "a folder in place of a file": Row("segments .", NULL, "", "capvet: message 0: Device\n", 3),
+    "a folder to pack": Row("pack .", NULL, "", "capvet: Device\n", 3),
+    "a bad path goes before a missing file": Row("get /p01 no-such-file", "", "", "capvet: bad path at 3\n", 2),
+    "a bad path of a message": Row("get /p65536", SHARED, "", "capvet: bad path at 6\n", 2),
+}
+
+# Files by their names, what is in them, and what a command writes of them. `-` is a file like any other.
+FILES = (
+    ("a file", "0000000000000000", ("segments", "a file"), "message 0: segments 1 words 0\nsegment 0: 0\nroot none\n"),
+    ("-", SHARED, ("vet", "-"), "message 0: accepted charge 4 depth 2 pointers 3 caps 0\n"),
+    ("shared.bin", SHARED, ("get", "/p1", "shared.bin"), "message 0: found\nnode struct 1 0\n  d0 0700000000000000\n"),
+    ("shared.bin", SHARED, ("pack", "shared.bin"), word("1004 4002 110401 1001 0107")),
+    ("shared.packed", "1004 4002 110401 1001 0107", ("unpack", "shared.packed"), word(SHARED)),
+    ("shared.packed", "1004 4002 110401 1001 0107", ("vet", "--packed", "shared.packed"),
+     "message 0: accepted charge 4 depth 2 pointers 3 caps 0\n"),
+)
+
 # ------------------------------------------------------------------ command lines
 
 # Command lines that are wrong, and what is said of them.
@@ -823,21 +905,27 @@ MISTAKE_BEGINNINGS = (
 # Paths that are none, and where they go wrong.
 BAD_PATHS = (
     ("", 0),
+    ("x", 0),
     ("p0", 0),
     ("p1", 0),
     ("é", 0),
     ("//", 1),
     ("/é", 1),
+    ("/x", 1),
     ("/x0", 1),
     ("/p", 2),
     ("/pé", 2),
     ("/i", 2),
+    ("/p00", 3),
     ("/p01", 3),
     ("/p0p", 3),
+    ("/p0/", 4),
     ("/p1/", 4),
     ("/p1//", 4),
     ("/p65536", 6),
+    ("/p99999", 6),
     ("/p100000", 7),
+    ("/p1/i2/q", 7),
     ("/i4294967296", 11),
 )
 

@@ -12,12 +12,7 @@ fn is_usage(alloc: Global, all: Vec<String>) -> bool {
         Ok(_job) => false,
         Err(JobFault::Help { text: _text }) => false,
         Err(JobFault::Usage { text }) => !text.is_empty(),
-        Err(
-            JobFault::Path {
-                at: _at,
-                text: _text,
-            },
-        ) => false,
+        Err(JobFault::Path { at: _at }) => false,
         Err(JobFault::Memory) => false,
     }
 }
