@@ -133,6 +133,8 @@ def machine(folder):
         (folder / name).mkdir(parents=True)
     dist.clone(folder / "capvet", ["static"])
     (folder / "capvet/build/capvet").chmod(0o755)
+    for report in (TOP / "build").glob("*.report"):
+        shutil.copy(report, folder / "capvet/build")
     (folder / "bin/rt").symlink_to(KIT / "bin/rt")
     hide(folder / "layer/upper", files())
     environment = {"PATH": f"{folder}/bin:/usr/sbin:/usr/bin:/sbin:/bin", "HOME": str(folder / "home"), "LANG": "C.UTF-8"}
