@@ -22,4 +22,4 @@ pub use get::write_node;
 pub use page::Page;
 pub use segments::write_segments;
 pub use tree::{dump, write_tree};
-pub use verdict::{write_accepted, write_check, write_overlap, write_refused};
+pub use verdict::{write_accepted, write_check, write_filtered, write_overlap, write_refused};

@@ -4,7 +4,7 @@
 use crate::rattle::{eprintln, HostRuntime};
 use capvet_core::rattle::Vec;
 
-use crate::cap_cmd::{read_job, run_job, Job, JobFault};
+use crate::cap_cmd::{read_job, run_job, Job, JobFault, Task};
 use crate::rattle::env::Env;
 use crate::rattle::fs::{File, Metadata, OpenFile};
 use crate::rattle::io::{BufWriter, ErrorKind, Read, Stdin, Write};
@@ -49,7 +49,7 @@ fn run(rt: &HostRuntime) -> u8 {
         Ok(job) => open_and_run(rt, job),
         Err(JobFault::Help { text }) => help(rt, text.as_str()),
         Err(JobFault::Usage { text }) => fail(rt, text.as_str(), USAGE),
-        Err(JobFault::Path { at, text }) => bad_path(rt, at, text.as_str()),
+        Err(JobFault::Path { at }) => bad_path(rt, at),
         Err(JobFault::Memory) => out_of_memory(rt),
     }
 }
@@ -97,7 +97,7 @@ fn open_and_run(rt: &HostRuntime, job: Job) -> u8 {
                 job.settings.live = may_wait(&file.metadata());
                 run_on(rt, &job, Device::File(file))
             }
-            Err(error) => cannot_open(rt, name.as_str(), &error),
+            Err(error) => cannot_open(rt, &job.task, name.as_str(), &error),
         },
     }
 }
@@ -119,7 +119,7 @@ fn run_on(rt: &HostRuntime, job: &Job, device: Device) -> u8 {
     };
     let status = run_over(rt, job, &mut input);
     if let Some(error) = &input.error {
-        explain(rt, error);
+        explain(rt, &job.task, error);
     }
     status
 }
@@ -157,21 +157,23 @@ fn help(rt: &HostRuntime, text: &str) -> u8 {
     }
 }
 
-fn bad_path(rt: &HostRuntime, at: usize, text: &str) -> u8 {
+fn bad_path(rt: &HostRuntime, at: usize) -> u8 {
     let _ = eprintln!(rt; "capvet: bad path at {at}");
-    let _ = eprintln!(rt; "capvet: the path is '{text}'; the order is 'capvet get PATH FILE'");
     USAGE
 }
 
-fn cannot_open(rt: &HostRuntime, name: &str, error: &io::Error) -> u8 {
+fn cannot_open(rt: &HostRuntime, task: &Task, name: &str, error: &io::Error) -> u8 {
     let _ = eprintln!(rt; "capvet: cannot open {name}");
-    explain(rt, error);
+    explain(rt, task, error);
     FAILED
 }
 
-// Writes what the system says of a file or of an input.
-fn explain(rt: &HostRuntime, error: &io::Error) {
-    let _ = eprintln!(rt; "capvet: {error}");
+// Writes the system's reason as a second line, if the task has one. The others write one line for a
+// fault.
+fn explain(rt: &HostRuntime, task: &Task, error: &io::Error) {
+    if let Task::Explain { .. } | Task::Filter { .. } = task {
+        let _ = eprintln!(rt; "capvet: {error}");
+    }
 }
 
 // Names the first argument that is not UTF-8 by its number, from 1.

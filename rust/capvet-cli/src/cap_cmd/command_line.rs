@@ -75,7 +75,7 @@ pub enum JobFault {
     Usage { text: String },
     /// The text of a path is not a path. `at` is the first byte, counted from 0, at which it
     /// stops being a prefix of a path's text. If all of it is such a prefix, `at` is its length.
-    Path { at: usize, text: String },
+    Path { at: usize },
     /// An allocation failed.
     Memory,
 }
@@ -103,14 +103,6 @@ fn parse_fault(alloc: Global, error: &Error) -> JobFault {
     }
 }
 
-// The fault of a text that is not a path.
-fn path_fault(alloc: Global, at: usize, text: &str) -> JobFault {
-    match String::from_str(alloc, text) {
-        Ok(text) => JobFault::Path { at, text },
-        Err(_) => JobFault::Memory,
-    }
-}
-
 // The path of `get`.
 fn path_of(alloc: Global, options: &ArgMatches<'_>) -> Result<Vec<Step>, JobFault> {
     let text = if let Some(text) = options.get_str("path") {
@@ -120,7 +112,7 @@ fn path_of(alloc: Global, options: &ArgMatches<'_>) -> Result<Vec<Step>, JobFaul
     };
     match parse_path(alloc, text) {
         Ok(path) => Ok(path),
-        Err(PathFault::Bad { at }) => Err(path_fault(alloc, at, text)),
+        Err(PathFault::Bad { at }) => Err(JobFault::Path { at }),
         Err(PathFault::Memory) => Err(JobFault::Memory),
     }
 }
@@ -225,8 +217,8 @@ fn job_of(alloc: Global, task: Task, options: &ArgMatches<'_>) -> Result<Job, Jo
 ///
 /// - [`JobFault::Help`]: the user asks for help or for the version; it has the text for the user.
 /// - [`JobFault::Usage`]: there is a mistake in the arguments; it has the text for the user.
-/// - [`JobFault::Path`]: the text of a path is not a path; it has the byte where it goes wrong, and
-///   the text. The path is read here, before any input is opened.
+/// - [`JobFault::Path`]: the text of a path is not a path; it has the byte where it goes wrong. The
+///   path is read here, before any input is opened.
 /// - [`JobFault::Memory`]: an allocation failed, and only then.
 pub fn read_job(alloc: Global, words: Vec<String>) -> Result<Job, JobFault> {
     let command = if let Ok(command) = capvet_command(alloc) {

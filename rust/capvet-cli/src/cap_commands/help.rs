@@ -62,6 +62,9 @@ the same word, if there is one. If the input breaks off inside a message, or a m
 standard error has the line of this fault. Lines after it say where the message begins, what its
 table says, and the reason. The options are those of 'vet'.
 
+An accepted message that is not strict or is amplified has a line that 'filter', the guard and the
+libraries refuse it, and then the same lines. With --strict and --unamplified, it is refused here.
+
 'pointers N' counts the pointers that were looked at, the named one included. In a path, pN is
 pointer N and iN is element N, both counted from 0. A place is SEGMENT:WORD, both counted from 0,
 and 'A to B' includes both places. A word in hex is its bytes, in the order of the unpacked input.

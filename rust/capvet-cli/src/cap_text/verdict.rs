@@ -137,6 +137,34 @@ pub fn write_overlap<O: ByteOut>(
     write_bytes(out, page.text())
 }
 
+/// Writes the line that `filter`, the guard and the libraries refuse a message, with the reason and
+/// the place (docs/output.md, explain). It comes after the line of a message that is accepted. What
+/// the page held before isn't written.
+///
+/// # Errors
+///
+/// The error of the output, which took a prefix of the line.
+pub fn write_filtered<O: ByteOut>(
+    page: &mut Page,
+    out: &mut O,
+    refusal: &StrictRefusal,
+) -> Result<(), OutFault> {
+    let why = refused_for(refusal);
+    filtered_line(page, why.name, why.segment, why.word, why.pointers);
+    write_bytes(out, page.text())
+}
+
+/// Begins the page with the line of a message that `filter`, the guard and the libraries refuse, with
+/// the name of the reason and the place.
+fn filtered_line(page: &mut Page, name: &[u8], segment: u32, word: u32, pointers: u64) {
+    page.clear();
+    page.push_text(b"  filter, the guard and the libraries refuse it: ");
+    page.push_text(name);
+    push_place(page, segment, word);
+    page.push_named(b" pointers ", pointers);
+    page.push_text(b"\n");
+}
+
 /// Begins the page with the line of a message that is refused, with the name of the reason and the
 /// place.
 fn refused_line(page: &mut Page, number: u32, name: &[u8], segment: u32, word: u32, pointers: u64) {

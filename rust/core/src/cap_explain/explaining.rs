@@ -31,11 +31,11 @@ struct Pointer {
 fn push_pointer_lines<M: Segments>(
     text: &mut Explanation,
     message: &M,
-    start: Option<MessageStart>,
+    numbers: Numbers,
     pointer: Pointer,
     target: &Option<Target>,
 ) {
-    push_byte_line(text, message, start, pointer.segment, pointer.word);
+    push_byte_line(text, message, numbers, pointer.segment, pointer.word);
     push_pointer_line(text, pointer.value);
     push_landing_lines(text, pointer.value, pointer.landing);
     push_target_lines(text, message, target);
@@ -53,7 +53,7 @@ fn push_lines<M: Segments>(
     numbers: Numbers,
 ) {
     if names_pointer(fault) {
-        push_pointer_lines(text, message, numbers.start, pointer, target);
+        push_pointer_lines(text, message, numbers, pointer, target);
     }
     push_excess_line(text, message, fault, target, numbers);
     push_reason_line(text, fault, pointer.landing, target);
@@ -137,6 +137,7 @@ pub fn explain_overlap<M: Segments>(
         words: 0,
         depth: 0,
         charge: None,
+        has_table: true,
         start,
     };
     push_fault(text, message, Fault::Overlap, segment, word, numbers);

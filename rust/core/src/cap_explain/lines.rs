@@ -42,14 +42,14 @@ fn push_input_place(text: &mut Explanation, start: Option<MessageStart>, byte: u
 pub(crate) fn push_byte_line<M: Segments>(
     text: &mut Explanation,
     message: &M,
-    start: Option<MessageStart>,
+    numbers: Numbers,
     segment: u32,
     word: u32,
 ) {
-    let byte = byte_of(message, segment, word);
+    let byte = byte_of(message, numbers.has_table, segment, word);
     text.push_named(b"  byte ", byte);
     text.push_text(b" of the message");
-    push_input_place(text, start, byte);
+    push_input_place(text, numbers.start, byte);
     text.push_text(b"\n");
 }
 

@@ -20,6 +20,8 @@ pub struct Numbers {
     pub depth: u32,
     /// The charge up to the pointer that is named, with its target, if the word limit is passed there.
     pub charge: Option<u64>,
+    /// Whether the message has a segment table, which comes before its segments.
+    pub has_table: bool,
     /// Where the message begins, if it is one of a stream.
     pub start: Option<MessageStart>,
 }

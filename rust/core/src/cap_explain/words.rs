@@ -20,10 +20,19 @@ fn words_before<M: Segments>(message: &M, segments: u32) -> u64 {
     words
 }
 
-/// The first byte of word `w` of segment `s` in the message, its segment table included.
-pub(crate) fn byte_of<M: Segments>(message: &M, s: u32, w: u32) -> u64 {
-    let table = u64::from(message.count() / 2 + 1);
-    8 * (table + words_before(message, s) + u64::from(w))
+/// The words of the segment table of a message, or none if the message has no table.
+fn table_words<M: Segments>(message: &M, has_table: bool) -> u64 {
+    if has_table {
+        u64::from(message.count() / 2 + 1)
+    } else {
+        0
+    }
+}
+
+/// The first byte of word `w` of segment `s` in the message, its segment table included if it has
+/// one.
+pub(crate) fn byte_of<M: Segments>(message: &M, has_table: bool, s: u32, w: u32) -> u64 {
+    8 * (table_words(message, has_table) + words_before(message, s) + u64::from(w))
 }
 
 /// How many words the frame of a message has: its segment table, and the words of its segments

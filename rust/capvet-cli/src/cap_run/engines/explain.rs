@@ -8,7 +8,9 @@ use crate::cap_run::engines::vet::VetPrinter;
 use crate::cap_run::engines::whole::{after_text, Printer};
 use crate::cap_run::settings::{Outcome, Settings};
 use crate::cap_run::waiting::Peek;
-use crate::cap_text::{write_accepted, write_overlap, write_refused, Cause, ExplainedFault, Page};
+use crate::cap_text::{
+    write_accepted, write_filtered, write_overlap, write_refused, Cause, ExplainedFault, Page,
+};
 use capvet_core::cap_explain::{
     explain, explain_earlier, explain_overlap, refusal_charge, Explanation, MessageStart, Numbers,
 };
@@ -46,27 +48,62 @@ fn numbers_of<M: Segments>(
         words: limits.words(),
         depth: limits.depth(),
         charge: refusal_charge(message, refusal, limits),
+        has_table: true,
         start,
     }
 }
 
-/// Writes the line of a refused message, and the lines that explain the refusal.
-fn write_refusal<M: Segments, O: ByteOut>(
-    page: &mut Page,
+/// Writes the lines that explain why a message that begins at `start` doesn't meet demands, after a
+/// text that isn't empty.
+fn write_explanation<M: Segments, O: ByteOut>(
     out: &mut O,
-    number: u32,
     message: &M,
     refusal: &StrictRefusal,
-    numbers: Numbers,
-    path: &NamedPath,
+    limits: Limits,
+    demands: Demands,
+    start: MessageStart,
 ) -> Result<(), OutFault> {
-    match write_refused(page, out, number, refusal) {
-        Ok(()) => {
-            let mut lines = Explanation::new();
-            explain(&mut lines, message, refusal, numbers, path.steps());
-            write_more(out, lines.text())
-        }
-        Err(fault) => Err(fault),
+    let mut path = NamedPath::new();
+    path.find_refused(message, limits, refusal);
+    let within = limits_under(message, limits, demands);
+    let numbers = numbers_of(message, refusal, within, Some(start));
+    let mut lines = Explanation::new();
+    explain(&mut lines, message, refusal, numbers, path.steps());
+    write_more(out, lines.text())
+}
+
+/// What `filter`, the guard and the libraries demand of a message.
+fn filter_demands() -> Demands {
+    Demands {
+        strict: true,
+        unamplified: true,
+    }
+}
+
+/// Why `filter`, the guard and the libraries refuse a message under these limits, if they do.
+fn filter_refusal<M: Segments>(message: &M, limits: Limits) -> Option<StrictRefusal> {
+    match vet_with(message, limits, filter_demands()) {
+        Ok(_) => None,
+        Err(refusal) => Some(refusal),
+    }
+}
+
+/// Writes that `filter`, the guard and the libraries refuse a message that begins at `start`, and the
+/// lines that explain it, after the line of the message. Writes nothing if they accept it.
+fn write_filter_lines<M: Segments, O: ByteOut>(
+    page: &mut Page,
+    out: &mut O,
+    message: &M,
+    refusal: &Option<StrictRefusal>,
+    limits: Limits,
+    start: MessageStart,
+) -> Result<(), OutFault> {
+    match refusal {
+        Some(refusal) => match write_filtered(page, out, refusal) {
+            Ok(()) => write_explanation(out, message, refusal, limits, filter_demands(), start),
+            Err(fault) => Err(fault),
+        },
+        None => Ok(()),
     }
 }
 
@@ -216,14 +253,60 @@ impl PlacedPrinter for OverlapPrinter {
     }
 }
 
-/// Vets a message under demands, and writes the text of its teller if the message meets them.
-/// Otherwise it explains the first reason why not.
+/// Vets a message under demands, and writes the text of its printer if the message meets them. After
+/// the line of an accepted message it explains why `filter`, the guard and the libraries refuse it.
+/// If the message doesn't meet the demands, it explains the first reason why not.
 #[derive(Clone, Copy)]
 struct Explaining<T> {
     limits: Limits,
     demands: Demands,
     packed: bool,
     printer: T,
+}
+
+impl<T: PlacedPrinter> Explaining<T> {
+    /// Writes the line of a message that doesn't meet the demands, and the lines that explain why.
+    fn write_refusal<M: Segments, O: ByteOut>(
+        &self,
+        page: &mut Page,
+        out: &mut O,
+        before: u64,
+        number: u32,
+        message: &M,
+        refusal: &StrictRefusal,
+    ) -> Result<(), OutFault> {
+        match write_refused(page, out, number, refusal) {
+            Ok(()) => {
+                let start = start_after(self.packed, before);
+                write_explanation(out, message, refusal, self.limits, self.demands, start)
+            }
+            Err(fault) => Err(fault),
+        }
+    }
+
+    /// Writes the text of a message that meets the demands. If it is accepted, what comes after it says
+    /// why `filter`, the guard and the libraries refuse it.
+    fn print_met<M: Segments, O: ByteOut>(
+        &self,
+        page: &mut Page,
+        out: &mut O,
+        before: u64,
+        number: u32,
+        vetted: &Vetted<'_, M>,
+    ) -> Result<Counted, Cause> {
+        let refusal = filter_refusal(vetted.message(), self.limits);
+        match self.printer.print(page, out, before, number, vetted) {
+            Ok(Counted::Accepted) => {
+                let start = start_after(self.packed, before);
+                let message = vetted.message();
+                let written = write_filter_lines(page, out, message, &refusal, self.limits, start);
+                after_text(written, Counted::Accepted)
+            }
+            Ok(Counted::Refused) => Ok(Counted::Refused),
+            Ok(Counted::NotCanonical) => Ok(Counted::NotCanonical),
+            Err(cause) => Err(cause),
+        }
+    }
 }
 
 impl<T: PlacedPrinter> PlacedJudge for Explaining<T> {
@@ -236,14 +319,9 @@ impl<T: PlacedPrinter> PlacedJudge for Explaining<T> {
         message: &M,
     ) -> Result<Counted, Cause> {
         match vet_with(message, self.limits, self.demands) {
-            Ok(vetted) => self.printer.print(page, out, before, number, &vetted),
+            Ok(vetted) => self.print_met(page, out, before, number, &vetted),
             Err(refusal) => {
-                let mut path = NamedPath::new();
-                path.find_refused(message, self.limits, &refusal);
-                let limits = limits_under(message, self.limits, self.demands);
-                let start = start_after(self.packed, before);
-                let numbers = numbers_of(message, &refusal, limits, Some(start));
-                let written = write_refusal(page, out, number, message, &refusal, numbers, &path);
+                let written = self.write_refusal(page, out, before, number, message, &refusal);
                 after_text(written, Counted::Refused)
             }
         }

@@ -37,13 +37,19 @@ pub fn explain(
     report: &mut CallReport,
 ) -> Answer {
     let whole = !limits.allows_trailing();
-    let (answer, count) = over_input(&Explaining, whole, bytes, limits, text, report);
+    let call = Explaining {
+        has_table: !limits.has_no_table(),
+    };
+    let (answer, count) = over_input(&call, whole, bytes, limits, text, report);
     *required = count;
     answer
 }
 
-// The call on a message.
-struct Explaining;
+// The call on a message, which has a segment table or not.
+#[derive(Clone, Copy)]
+struct Explaining {
+    has_table: bool,
+}
 
 impl Call for Explaining {
     type Item = u8;
@@ -59,7 +65,7 @@ impl Call for Explaining {
     ) -> Found {
         match vet_with(view, limits, demands) {
             Ok(_) => path_answer(Answer::NoNode),
-            Err(refusal) => explained(view, refusal, limits, demands, out),
+            Err(refusal) => explained(view, refusal, limits, demands, self.has_table, out),
         }
     }
 }
@@ -71,12 +77,13 @@ fn explained<'b>(
     refusal: StrictRefusal,
     limits: Limits,
     demands: Demands,
+    has_table: bool,
     out: &mut [u8],
 ) -> Found {
     let mut path = NamedPath::new();
     path.find_refused(view, limits, &refusal);
     let within = limits_under(view, limits, demands);
-    let numbers = numbers_of(view, &refusal, within);
+    let numbers = numbers_of(view, &refusal, within, has_table);
     let (answer, count) = put_lines(view, &refusal, numbers, &path, out);
     Found {
         answer,
@@ -87,11 +94,17 @@ fn explained<'b>(
 
 // The numbers of a message that is refused within limits, and isn't one of a stream.
 #[inline(never)]
-fn numbers_of<'b>(view: &ByteView<'b>, refusal: &StrictRefusal, limits: Limits) -> Numbers {
+fn numbers_of<'b>(
+    view: &ByteView<'b>,
+    refusal: &StrictRefusal,
+    limits: Limits,
+    has_table: bool,
+) -> Numbers {
     Numbers {
         words: limits.words(),
         depth: limits.depth(),
         charge: refusal_charge(view, refusal, limits),
+        has_table,
         start: None,
     }
 }
