@@ -25,10 +25,9 @@ PACKAGES = (
       ("core :: str", "str"), *((f"crate :: rattle :: {name}", f"std :: {name}") for name in ("env", "fs", "io", "process")),
       *((f"capvet_core :: {name}", name) for name in LIBRARY.split()), *((f"crate :: {name}", name) for name in PROGRAM.split()))),
 )
-# Sources without a counterpart: theorems have no code, and stable Rust has no vectors.
-WITHOUT = {"cap_calls/laws.rt", "cap_calls/node_laws.rt", "cap_calls/packing_laws.rt", "cap_calls/pointer_laws.rt",
-           "cap_pack/lanes/vectors.rt", "cap_pack/lanes/vectors/spread.rt", "cap_pack/lanes/vectors/squeeze.rt"}
-THEOREMS = "laws|node_laws|packing_laws|pointer_laws"
+# Sources without a counterpart: theorems, in files whose names end in `laws`, have no code, and stable Rust has no vectors.
+WITHOUT = re.compile(r"cap_\w+/\w*laws\.rt|cap_pack/lanes/vectors(\.rt|/\w+\.rt)")
+THEOREMS = r"\w*laws"
 
 WORDS = re.compile(r"""//[^\n]*|"(?:\\.|[^"\\])*"|'(?:\\.[^']*|[^'\\])'|\w+|->|=>|::|\.\.=|\.\.|&&|\|\||[=!<>]=|\S""")
 # What the source has more, or in another form. A `~` is words without a bracket or a semicolon.
@@ -198,7 +197,7 @@ def package(folder, crates, by_hand, paths):
         sources = TOP / "crates" / crate / "src"
         for source in sorted(sources.rglob("*.rt")):
             inside = source.relative_to(sources)
-            if f"{crate}/{inside}" in WITHOUT:
+            if WITHOUT.fullmatch(f"{crate}/{inside}"):
                 continue
             name = f"{crate}.rs" if inside.stem in ("lib", "main") else f"{crate}/{inside.with_suffix('.rs')}"
             known.add(name)
