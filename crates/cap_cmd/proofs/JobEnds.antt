@@ -17,6 +17,7 @@ use Rattle.cap_text.specs.declared.fault.CopyFault.{CopyFault}
 use Rattle.cap_text.specs.declared.fault.CopyFault.TheVariants.{Source, TooManyWords, Output as copy_output}
 use Rattle.cap_text.specs.declared.fault.RunFault.{RunFault}
 use Rattle.cap_run.specs.Breaking.{run_answer}
+use Rattle.cap_run.specs.Demanding.{no_demands}
 use Rattle.cap_run.specs.Placed.{PlacedReports, ReportsFrom, ReportsPlaced}
 use Rattle.cap_run.specs.Filtering.{FiltersStream}
 use Rattle.cap_run.specs.RunNames.{copies_of, ReportsCheckUnder, ReportsDumpUnder, ReportsExclusiveUnder, ReportsGetUnder}
@@ -28,13 +29,14 @@ use Rattle.cap_run.specs.declared.settings.FilterForm.{FilterForm}
 use Rattle.cap_run.specs.declared.settings.Outcome.{Outcome}
 use Rattle.cap_run.specs.declared.settings.Settings.{Settings}
 use Rattle.cap_run.proofs.FilterEnds.{reads_whole}
-use Rattle.cap_cmd.specs.Jobs.{CanonsInput, CanonsTo, DoesJob, DoesTask, PlacesInput, ReportsInput, TranscodesInput, TranscodesTo}
-use Rattle.cap_cmd.specs.Jobs.{WritesAll, WritesInput, input_is_cut, input_words}
+use Rattle.cap_cmd.specs.Jobs.{CanonsInput, CanonsTo, DoesJob, DoesTask, DoesUnder, PlacesInput, ReportsInput, TranscodesInput, TranscodesTo}
+use Rattle.cap_cmd.specs.Jobs.{WritesAll, WritesInput, WritesUnder, input_is_cut, input_words}
 use Rattle.cap_cmd.specs.Statuses.{cause_status, frame_status, outcome_status, run_status, transcode_status}
-use Rattle.cap_cmd.specs.declared.command_line.Job.{Job}
-use Rattle.cap_cmd.specs.declared.command_line.Task.{Task}
-use Rattle.cap_cmd.specs.declared.command_line.Task.TheVariants.{Check, Dump, Explain, Filter, Get, Pack, Segments, Unpack, Vet}
-use Rattle.cap_cmd.specs.declared.command_line.Task.TheVariants.{Canon as canon_task}
+use Rattle.cap_cmd.specs.declared.jobs.Job.{Job}
+use Rattle.cap_cmd.specs.declared.jobs.Task.{Task}
+use Rattle.cap_cmd.specs.declared.jobs.Task.TheVariants as task
+use Rattle.cap_cmd.specs.declared.jobs.Work.{Work}
+use Rattle.cap_cmd.specs.declared.jobs.Work.TheVariants as work
 use Rattle.cap_words.specs.declared.ends.ByteIn as input
 use Rattle.cap_words.specs.declared.ends.ByteOut as output
 use Rattle.cap_words.specs.declared.sinks.WordSink as sink
@@ -171,52 +173,67 @@ module _ {S O K : Type 0} (gs : source.Ghosts S) (go : output.Ghosts O) (s : Set
       }
   all_made demands before after (Err fault) e p = absurd (cause_fails fault.cause e)
 
-module _ {S O E P U : Type 0} (gs : source.Ghosts S) (go : output.Ghosts O) (ge : output.Ghosts E)
-    (gp : sink.Ghosts P) (gu : sink.Ghosts U) where
-  -- what a task with the status of success wrote
-  writes_all : (task : Task) (s : Settings) (demands : Demands) (first : S) (before after : O) (old new : E)
+module _ {S O E U : Type 0} (gs : source.Ghosts S) (go : output.Ghosts O) (ge : output.Ghosts E)
+    (gu : sink.Ghosts U) where
+  -- what work under demands with the status of success wrote
+  writes_under : (demands : Demands) (w : Work) (packed : Bool) (s : Settings) (first : S) (before after : O) (old new : E)
       (status : ℕ) → status ≡ 0
-      → DoesTask gs go ge gp gu task s demands first before after old new status
-      → WritesAll task s demands (gs.words first) (gs.is_cut first) (go.written before) (go.written after)
-  writes_all Segments s demands first before after old new status e d =
-      reported_all gs go s first d.last ReportsSegments AllocatesNone before after d.answer (sym d.exited.status_is ∙ e) d.does.reported
-  writes_all (Vet false) s demands first before after old new status e d =
+      → DoesUnder gs go ge gu demands w packed s first before after old new status
+      → WritesUnder demands w packed s (gs.words first) (gs.is_cut first) (go.written before) (go.written after)
+  writes_under demands (work.Vet false) packed s first before after old new status e d =
       reported_all gs go s first d.last (ReportsVerdictUnder demands (words_of s.limits) (depth_of s.limits)) AllocatesNone
-      before after
-      d.answer (sym d.exited.status_is ∙ e) d.does
-  writes_all (Vet true) s demands first before after old new status e d =
+      before after d.answer (sym d.exited.status_is ∙ e) d.does
+  writes_under demands (work.Vet true) packed s first before after old new status e d =
       reported_all gs go s first d.last (ReportsExclusiveUnder demands (words_of s.limits) (depth_of s.limits))
       (AllocatesMarksUnder demands (words_of s.limits) (depth_of s.limits)) before after d.answer
       (sym d.exited.status_is ∙ e) d.does
-  writes_all (Explain false) s demands first before after old new status e d =
-      placed_all gs go s first d.last (ReportsExplainedUnder s.packed demands (words_of s.limits) (depth_of s.limits)) AllocatesNone
-      before after
-      (run_answer d.answer) (sym d.exited.status_is ∙ e) d.does.reported
-  writes_all (Explain true) s demands first before after old new status e d =
-      placed_all gs go s first d.last (ReportsExplainedExclusiveUnder s.packed demands (words_of s.limits) (depth_of s.limits))
+  writes_under demands (work.Explain false) packed s first before after old new status e d =
+      placed_all gs go s first d.last (ReportsExplainedUnder packed demands (words_of s.limits) (depth_of s.limits)) AllocatesNone
+      before after (run_answer d.answer) (sym d.exited.status_is ∙ e) d.does.reported
+  writes_under demands (work.Explain true) packed s first before after old new status e d =
+      placed_all gs go s first d.last (ReportsExplainedExclusiveUnder packed demands (words_of s.limits) (depth_of s.limits))
       (AllocatesMarksUnder demands (words_of s.limits) (depth_of s.limits)) before after (run_answer d.answer)
       (sym d.exited.status_is ∙ e) d.does.reported
-  writes_all (Filter form) s demands first before after old new status e d =
+  writes_under demands (work.Filter form) packed s first before after old new status e d =
       passed_all gs go s first d.1.last ge form (ReportsIn form demands s.limits) (AllocatesInForm form demands s.limits)
       before after old d.0 d.1.answer (sym d.1.exited.status_is ∙ e) d.1.does
-  writes_all Dump s demands first before after old new status e d =
-      reported_all gs go s first d.last (ReportsDumpUnder demands (words_of s.limits) (depth_of s.limits)) AllocatesNone before
-      after
-      d.answer (sym d.exited.status_is ∙ e) d.does
-  writes_all (Get path) s demands first before after old new status e d =
+  writes_under demands work.Dump packed s first before after old new status e d =
+      reported_all gs go s first d.last (ReportsDumpUnder demands (words_of s.limits) (depth_of s.limits)) AllocatesNone
+      before after d.answer (sym d.exited.status_is ∙ e) d.does
+  writes_under demands (work.Get path) packed s first before after old new status e d =
       reported_all gs go s first d.last (ReportsGetUnder demands (words_of s.limits) (depth_of s.limits) path.items)
-      AllocatesNone before after
-      d.answer (sym d.exited.status_is ∙ e) d.does
-  writes_all Check s demands first before after old new status e d =
-      reported_all gs go s first d.last (ReportsCheckUnder demands (words_of s.limits) (depth_of s.limits)) AllocatesNone before
-      after
-      d.answer (sym d.exited.status_is ∙ e) d.does
-  writes_all canon_task s demands first before after old new status e d =
+      AllocatesNone before after d.answer (sym d.exited.status_is ∙ e) d.does
+  writes_under demands work.Check packed s first before after old new status e d =
+      reported_all gs go s first d.last (ReportsCheckUnder demands (words_of s.limits) (depth_of s.limits)) AllocatesNone
+      before after d.answer (sym d.exited.status_is ∙ e) d.does
+  writes_under demands work.Canon packed s first before after old new status e d =
       all_made gs go s first d.last gu demands before after d.answer (sym d.exited.status_is ∙ e) d.does
-  writes_all Pack s demands first before after old new status e d =
+
+module _ {S O E P U : Type 0} (gs : source.Ghosts S) (go : output.Ghosts O) (ge : output.Ghosts E)
+    (gp : sink.Ghosts P) (gu : sink.Ghosts U) where
+  -- what a task with the status of success wrote
+  writes_all : (t : Task) (packed : Bool) (s : Settings) (first : S) (before after : O) (old new : E)
+      (status : ℕ) → status ≡ 0
+      → DoesTask gs go ge gp gu t packed s first before after old new status
+      → WritesAll t packed s (gs.words first) (gs.is_cut first) (go.written before) (go.written after)
+  writes_all task.Segments packed s first before after old new status e d =
+      reported_all gs go s first d.last ReportsSegments AllocatesNone before after d.answer (sym d.exited.status_is ∙ e) d.does.reported
+  writes_all task.Vet packed s first before after old new status e d =
+      writes_under gs go ge gu no_demands (work.Vet false) packed s first before after old new status e d
+  writes_all task.Dump packed s first before after old new status e d =
+      writes_under gs go ge gu no_demands work.Dump packed s first before after old new status e d
+  writes_all (task.Get path) packed s first before after old new status e d =
+      writes_under gs go ge gu no_demands (work.Get path) packed s first before after old new status e d
+  writes_all task.Check packed s first before after old new status e d =
+      writes_under gs go ge gu no_demands work.Check packed s first before after old new status e d
+  writes_all task.Canon packed s first before after old new status e d =
+      writes_under gs go ge gu no_demands work.Canon packed s first before after old new status e d
+  writes_all (task.Under demands w) packed s first before after old new status e d =
+      writes_under gs go ge gu demands w packed s first before after old new status e d
+  writes_all task.Pack packed s first before after old new status e d =
       all_copied gs go s first d.last gp pack_text most_packed_at_once before after d.answer
       (sym d.exited.status_is ∙ e) d.does
-  writes_all Unpack s demands first before after old new status e d =
+  writes_all task.Unpack packed s first before after old new status e d =
       all_copied gs go s first d.last gu plain_text most_unpacked_at_once before after d.answer
       (sym d.exited.status_is ∙ e) d.does
 
@@ -226,16 +243,16 @@ module _ {S O E P U : Type 0} {gs : source.Ghosts S} {go : output.Ghosts O} {ge 
   pub job_writes_all : {I : Type 0} {gi : input.Ghosts I} {is_packed packed : Bool} {job : Job}
       {start : I} {before after : O} {old new : E} {status : ℕ} → is_packed ≡ packed → status ≡ 0
       → DoesJob gi gs go ge gp gu packed job start before after old new status
-      → WritesAll job.task job.settings job.demands (input_words is_packed (gi.to_come start))
+      → WritesAll job.task job.packed job.settings (input_words is_packed (gi.to_come start))
       (input_is_cut is_packed (gi.to_come start)) (go.written before) (go.written after)
   job_writes_all {gi = gi} {packed = packed} {job = job} {start = start} {before = before} {after = after} {old = old}
       {new = new} {status = status} same e j =
-      let written = writes_all gs go ge gp gu job.task job.settings job.demands j.first before after old new status e j.does in
-      let cut = subst (λ c. WritesAll job.task job.settings job.demands (gs.words j.first) c (go.written before)
+      let written = writes_all gs go ge gp gu job.task job.packed job.settings j.first before after old new status e j.does in
+      let cut = subst (λ c. WritesAll job.task job.packed job.settings (gs.words j.first) c (go.written before)
       (go.written after))
       j.begins.is_cut written in
-      let known = subst (λ w. WritesAll job.task job.settings job.demands w (input_is_cut packed (gi.to_come start))
+      let known = subst (λ w. WritesAll job.task job.packed job.settings w (input_is_cut packed (gi.to_come start))
       (go.written before) (go.written after)) j.begins.words cut in
-      subst (λ b. WritesAll job.task job.settings job.demands (input_words b (gi.to_come start))
+      subst (λ b. WritesAll job.task job.packed job.settings (input_words b (gi.to_come start))
       (input_is_cut b (gi.to_come start))
       (go.written before) (go.written after)) (sym same) known

@@ -22,6 +22,7 @@ use Rattle.cap_text.specs.declared.fault.ExplainedFault.{ExplainedFault}
 use Rattle.cap_text.specs.declared.fault.RunFault.{RunFault}
 use Rattle.cap_run.specs.Breaking.{ExplainsStream, run_answer}
 use Rattle.cap_run.specs.Placed.{PlacedReports, ReportsFrom}
+use Rattle.cap_run.specs.Demanding.{no_demands}
 use Rattle.cap_run.specs.Engines.{ShowsStream}
 use Rattle.cap_run.specs.Filtering.{FiltersUnder}
 use Rattle.cap_run.specs.RunNames.{AreCanonised, Canonised, MakesCopiesUnder, canonised, copies_of, ReportsCheckUnder}
@@ -34,10 +35,11 @@ use Rattle.cap_run.specs.declared.settings.FilterForm.{FilterForm}
 use Rattle.cap_run.specs.declared.settings.Outcome.{Outcome}
 use Rattle.cap_run.specs.declared.settings.Settings.{Settings}
 use Rattle.cap_cmd.specs.Statuses.{run_status, transcode_status}
-use Rattle.cap_cmd.specs.declared.command_line.Job.{Job}
-use Rattle.cap_cmd.specs.declared.command_line.Task.{Task}
-use Rattle.cap_cmd.specs.declared.command_line.Task.TheVariants.{Canon, Check, Dump, Explain, Filter, Get, Pack, Segments}
-use Rattle.cap_cmd.specs.declared.command_line.Task.TheVariants.{Unpack, Vet}
+use Rattle.cap_cmd.specs.declared.jobs.Job.{Job}
+use Rattle.cap_cmd.specs.declared.jobs.Task.{Task}
+use Rattle.cap_cmd.specs.declared.jobs.Task.TheVariants as task
+use Rattle.cap_cmd.specs.declared.jobs.Work.{Work}
+use Rattle.cap_cmd.specs.declared.jobs.Work.TheVariants as work
 use Rattle.cap_words.specs.declared.ends.ByteIn as input
 use Rattle.cap_words.specs.declared.ends.ByteOut as output
 use Rattle.cap_words.specs.declared.sinks.WordSink as sink
@@ -45,19 +47,18 @@ use Rattle.cap_words.specs.declared.sources.WordSource as source
 
 -- the input of unpacking is packed, that of packing is not, and for messages the user decides
 abbrev pub is_packed : Task → Bool → Bool
-is_packed Segments asked = asked
-is_packed (Vet exclusive) asked = asked
-is_packed (Explain exclusive) asked = asked
-is_packed (Filter form) asked = asked
-is_packed Dump asked = asked
-is_packed (Get path) asked = asked
-is_packed Check asked = asked
-is_packed Canon asked = asked
-is_packed Pack asked = false
-is_packed Unpack asked = true
+is_packed task.Segments asked = asked
+is_packed task.Vet asked = asked
+is_packed task.Dump asked = asked
+is_packed (task.Get path) asked = asked
+is_packed task.Check asked = asked
+is_packed task.Canon asked = asked
+is_packed (task.Under demands w) asked = asked
+is_packed task.Pack asked = false
+is_packed task.Unpack asked = true
 
 abbrev pub reads_packed : Job → Bool
-reads_packed job = is_packed job.task job.settings.packed
+reads_packed job = is_packed job.task job.packed
 
 -- the words of an input that is packed or not, where its bytes are known
 abbrev pub input_words : Bool → Option (List ℕ) → Option (List ℕ)
@@ -169,10 +170,10 @@ module _ {S O E : Type 0} (gs : source.Ghosts S) (go : output.Ghosts O) (ge : ou
       (ExitsRun ge)
 
   -- an engine that explains
-  abbrev pub ExplainsTask : PlacedReports → (List (List ℕ) → Type 0) → Settings → S → O → O → E → E → ℕ
-      → Type 0
-  ExplainsTask reports allocates s first before after = Runs
-      (λ last answer. ExplainsStream gs go reports allocates s.packed (limit_of s.size) s.messages first last
+  abbrev pub ExplainsTask : PlacedReports → (List (List ℕ) → Type 0) → Bool → Settings → S → O → O → E → E
+      → ℕ → Type 0
+  ExplainsTask reports allocates packed s first before after = Runs
+      (λ last answer. ExplainsStream gs go reports allocates packed (limit_of s.size) s.messages first last
       before after answer)
       (ExitsExplained ge)
 
@@ -196,43 +197,60 @@ module _ {S O E K : Type 0} (gs : source.Ghosts S) (go : output.Ghosts O) (ge : 
       (λ last answer. TranscodesTo gs go gk text at_once first last before after answer)
       (ExitsCopy ge)
 
-module _ {S O E P U : Type 0} (gs : source.Ghosts S) (go : output.Ghosts O) (ge : output.Ghosts E)
-    (gp : sink.Ghosts P) (gu : sink.Ghosts U) where
-  -- What is done over the words of a source, by the task: its engine runs under the demands, and
-  -- its answer is reported.
-  abbrev pub DoesTask : Task → Settings → Demands → S → O → O → E → E → ℕ → Type 0
-  DoesTask Segments s demands first before after = Runs
-      (λ last answer. ShowsStream gs go (limit_of s.size) s.messages first last before after answer)
-      (ExitsRun ge)
-  DoesTask (Vet false) s demands first before after =
+module _ {S O E U : Type 0} (gs : source.Ghosts S) (go : output.Ghosts O) (ge : output.Ghosts E)
+    (gu : sink.Ghosts U) where
+  -- What is done with each message under demands, by the work: its engine runs, and its answer is
+  -- reported.
+  abbrev pub DoesUnder : Demands → Work → Bool → Settings → S → O → O → E → E → ℕ → Type 0
+  DoesUnder demands (work.Vet false) packed s first before after =
       ReportsTask gs go ge (ReportsVerdictUnder demands (words_of s.limits) (depth_of s.limits))
       AllocatesNone s first before after
-  DoesTask (Vet true) s demands first before after =
+  DoesUnder demands (work.Vet true) packed s first before after =
       ReportsTask gs go ge (ReportsExclusiveUnder demands (words_of s.limits) (depth_of s.limits))
       (AllocatesMarksUnder demands (words_of s.limits) (depth_of s.limits)) s first before after
-  DoesTask (Explain false) s demands first before after =
-      ExplainsTask gs go ge (ReportsExplainedUnder s.packed demands (words_of s.limits) (depth_of s.limits))
-      AllocatesNone s first before after
-  DoesTask (Explain true) s demands first before after =
+  DoesUnder demands (work.Explain false) packed s first before after =
+      ExplainsTask gs go ge (ReportsExplainedUnder packed demands (words_of s.limits) (depth_of s.limits))
+      AllocatesNone packed s first before after
+  DoesUnder demands (work.Explain true) packed s first before after =
       ExplainsTask gs go ge
-      (ReportsExplainedExclusiveUnder s.packed demands (words_of s.limits) (depth_of s.limits))
-      (AllocatesMarksUnder demands (words_of s.limits) (depth_of s.limits)) s first before after
-  DoesTask (Filter form) s demands first before after =
+      (ReportsExplainedExclusiveUnder packed demands (words_of s.limits) (depth_of s.limits))
+      (AllocatesMarksUnder demands (words_of s.limits) (depth_of s.limits)) packed s first before after
+  DoesUnder demands (work.Filter form) packed s first before after =
       FiltersTask gs go ge form s demands first before after
-  DoesTask Dump s demands first before after =
+  DoesUnder demands work.Dump packed s first before after =
       ReportsTask gs go ge (ReportsDumpUnder demands (words_of s.limits) (depth_of s.limits))
       AllocatesNone s first before after
-  DoesTask (Get path) s demands first before after =
+  DoesUnder demands (work.Get path) packed s first before after =
       ReportsTask gs go ge (ReportsGetUnder demands (words_of s.limits) (depth_of s.limits) path.items)
       AllocatesNone s first before after
-  DoesTask Check s demands first before after =
+  DoesUnder demands work.Check packed s first before after =
       ReportsTask gs go ge (ReportsCheckUnder demands (words_of s.limits) (depth_of s.limits))
       AllocatesNone s first before after
-  DoesTask Canon s demands first before after =
+  DoesUnder demands work.Canon packed s first before after =
       CanonsTask gs go ge gu s demands first before after
-  DoesTask Pack s demands first before after =
+
+module _ {S O E P U : Type 0} (gs : source.Ghosts S) (go : output.Ghosts O) (ge : output.Ghosts E)
+    (gp : sink.Ghosts P) (gu : sink.Ghosts U) where
+  -- What is done over the words of a source, by the task.
+  abbrev pub DoesTask : Task → Bool → Settings → S → O → O → E → E → ℕ → Type 0
+  DoesTask task.Segments packed s first before after = Runs
+      (λ last answer. ShowsStream gs go (limit_of s.size) s.messages first last before after answer)
+      (ExitsRun ge)
+  DoesTask task.Vet packed s first before after =
+      DoesUnder gs go ge gu no_demands (work.Vet false) packed s first before after
+  DoesTask task.Dump packed s first before after =
+      DoesUnder gs go ge gu no_demands work.Dump packed s first before after
+  DoesTask (task.Get path) packed s first before after =
+      DoesUnder gs go ge gu no_demands (work.Get path) packed s first before after
+  DoesTask task.Check packed s first before after =
+      DoesUnder gs go ge gu no_demands work.Check packed s first before after
+  DoesTask task.Canon packed s first before after =
+      DoesUnder gs go ge gu no_demands work.Canon packed s first before after
+  DoesTask (task.Under demands w) packed s first before after =
+      DoesUnder gs go ge gu demands w packed s first before after
+  DoesTask task.Pack packed s first before after =
       TranscodesTask gs go ge gp pack_text most_packed_at_once first before after
-  DoesTask Unpack s demands first before after =
+  DoesTask task.Unpack packed s first before after =
       TranscodesTask gs go ge gu plain_text most_unpacked_at_once first before after
 
 module _ {I S O E P U : Type 0} (gi : input.Ghosts I) (gs : source.Ghosts S) (go : output.Ghosts O)
@@ -242,8 +260,7 @@ module _ {I S O E P U : Type 0} (gi : input.Ghosts I) (gs : source.Ghosts S) (go
       (old new : E) (status : ℕ) : Type 0 where
     pub first : S
     pub begins : BeginsInput gi gs packed start first
-    pub does : DoesTask gs go ge gp gu job.task job.settings job.demands first before after old new
-        status
+    pub does : DoesTask gs go ge gp gu job.task job.packed job.settings first before after old new status
 
 -- All words are frames of messages, each within the limit, and none is cut short. Each message is
 -- accepted, and canonical if that was asked, and texts of them were written of which `each` holds.
@@ -291,26 +308,36 @@ pub record TranscodesInput (text : List ℕ → List ℕ) (words : Option (List 
   pub few : length own ≤ most_transcoded
   pub appended : Appends before after (text own)
 
--- What a task with the status of success wrote of all words, by the task.
-abbrev pub WritesAll : Task → Settings → Demands → Option (List ℕ) → Bool → Option (List ℕ)
+-- What work under demands with the status of success wrote of all words, by the work.
+abbrev pub WritesUnder : Demands → Work → Bool → Settings → Option (List ℕ) → Bool → Option (List ℕ)
     → Option (List ℕ) → Type 0
-WritesAll Segments s demands = ReportsInput ReportsSegments s
-WritesAll (Vet false) s demands =
+WritesUnder demands (work.Vet false) packed s =
     ReportsInput (ReportsVerdictUnder demands (words_of s.limits) (depth_of s.limits)) s
-WritesAll (Vet true) s demands =
+WritesUnder demands (work.Vet true) packed s =
     ReportsInput (ReportsExclusiveUnder demands (words_of s.limits) (depth_of s.limits)) s
-WritesAll (Explain false) s demands =
-    PlacesInput (ReportsExplainedUnder s.packed demands (words_of s.limits) (depth_of s.limits)) s
-WritesAll (Explain true) s demands =
-    PlacesInput (ReportsExplainedExclusiveUnder s.packed demands (words_of s.limits) (depth_of s.limits)) s
-WritesAll (Filter form) s demands =
+WritesUnder demands (work.Explain false) packed s =
+    PlacesInput (ReportsExplainedUnder packed demands (words_of s.limits) (depth_of s.limits)) s
+WritesUnder demands (work.Explain true) packed s =
+    PlacesInput (ReportsExplainedExclusiveUnder packed demands (words_of s.limits) (depth_of s.limits)) s
+WritesUnder demands (work.Filter form) packed s =
     ReportsInput (PassesOn form.pack (ReportsIn form demands s.limits)) s
-WritesAll Dump s demands =
+WritesUnder demands work.Dump packed s =
     ReportsInput (ReportsDumpUnder demands (words_of s.limits) (depth_of s.limits)) s
-WritesAll (Get path) s demands =
+WritesUnder demands (work.Get path) packed s =
     ReportsInput (ReportsGetUnder demands (words_of s.limits) (depth_of s.limits) path.items) s
-WritesAll Check s demands =
+WritesUnder demands work.Check packed s =
     ReportsInput (ReportsCheckUnder demands (words_of s.limits) (depth_of s.limits)) s
-WritesAll Canon s demands = CanonsInput s demands
-WritesAll Pack s demands = TranscodesInput pack_text
-WritesAll Unpack s demands = TranscodesInput plain_text
+WritesUnder demands work.Canon packed s = CanonsInput s demands
+
+-- What a task with the status of success wrote of all words, by the task.
+abbrev pub WritesAll : Task → Bool → Settings → Option (List ℕ) → Bool → Option (List ℕ)
+    → Option (List ℕ) → Type 0
+WritesAll task.Segments packed s = ReportsInput ReportsSegments s
+WritesAll task.Vet packed s = WritesUnder no_demands (work.Vet false) packed s
+WritesAll task.Dump packed s = WritesUnder no_demands work.Dump packed s
+WritesAll (task.Get path) packed s = WritesUnder no_demands (work.Get path) packed s
+WritesAll task.Check packed s = WritesUnder no_demands work.Check packed s
+WritesAll task.Canon packed s = WritesUnder no_demands work.Canon packed s
+WritesAll (task.Under demands w) packed s = WritesUnder demands w packed s
+WritesAll task.Pack packed s = TranscodesInput pack_text
+WritesAll task.Unpack packed s = TranscodesInput plain_text

@@ -2,8 +2,8 @@
 
 use crate::same::same_of;
 use cap_pack::{Packer, Unpacker};
-use cap_run::{CopyFault, Peek, run_pack, run_unpack};
-use cap_words::{FromRead, PlainSink, PlainWords, SliceIn, VecOut};
+use cap_run::{CopyFault, run_pack, run_unpack};
+use cap_words::{FromRead, PlainSink, PlainWords, SliceIn, VecOut, WordSource};
 use std::alloc::Global;
 use std::process::Abort;
 use test_support::Reader;
@@ -18,9 +18,9 @@ fn answer(words: u64, most: u64) -> Result<u64, CopyFault> {
 }
 
 // At most `most` of the 130 zero words of a source are packed: they are one group.
-fn expect_packed<S: Peek>(rt: &impl Abort, alloc: Global, source: &mut S, most: u64) {
+fn expect_packed<S: WordSource>(rt: &impl Abort, alloc: Global, source: &mut S, most: u64) {
     let mut sink = Packer::new(VecOut::new(alloc));
-    assert!(rt; run_pack(source, &mut sink, most, true) == answer(130, most));
+    assert!(rt; run_pack(source, &mut sink, most) == answer(130, most));
     let output = sink.into_inner();
     if most == 0 {
         same_of(rt, &most, output.bytes(), &[]);
@@ -56,7 +56,7 @@ const MANY_WORDS: u64 = 1157;
 fn expect_unpacked(rt: &impl Abort, alloc: Global, most: u64) {
     let mut source = Unpacker::new(SliceIn::new(&MANY));
     let mut sink = PlainSink::new(VecOut::new(alloc));
-    let given = run_unpack(&mut source, &mut sink, most, true);
+    let given = run_unpack(&mut source, &mut sink, most);
     assert!(rt; given == answer(MANY_WORDS, most));
     let written = sink.into_inner().bytes().len() as u64;
     same_of(rt, &most, written, 8 * most.min(MANY_WORDS));

@@ -2,7 +2,9 @@
 
 use crate::same::same;
 use cap_frame::SizeLimit;
-use cap_run::{Cause, Limits, Outcome, RunFault, Settings, run_vet};
+use cap_run::{
+    Cause, Demands, FlushBeforeWaiting, Limits, Outcome, RunFault, Settings, run_vet_with,
+};
 use cap_words::{FromWrite, OutFault, PlainWords, SliceIn};
 use std::alloc::Global;
 use std::io::ErrorKind;
@@ -13,8 +15,6 @@ pub(crate) fn settings(messages: u32) -> Option<Settings> {
         limits: Limits::new(8388608, 64)?,
         size: SizeLimit::new(8388608)?,
         messages,
-        packed: false,
-        live: true,
     })
 }
 
@@ -26,11 +26,13 @@ fn third_fails(alloc: Global) -> Option<(Result<Outcome, RunFault>, u32, usize)>
     let settings = settings(3)?;
     let kind = Some(ErrorKind::Other);
     let mut out = FromWrite::new(Writer::new(alloc, 4096, Fault { at: 3, kind }));
-    let answer = run_vet(
+    let answer = run_vet_with(
         alloc,
         &mut PlainWords::new(SliceIn::new(TWO)),
         &mut out,
         &settings,
+        Demands::default(),
+        &FlushBeforeWaiting { live: true },
     );
     let writer = out.into_inner();
     Some((answer, writer.calls, writer.taken.len()))

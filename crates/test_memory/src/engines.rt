@@ -19,8 +19,6 @@ fn settings() -> Result<Settings, Fail> {
         limits: Limits::new(100, 64).ok_or("limits")?,
         size: SizeLimit::new(100).ok_or("a limit")?,
         messages: 2,
-        packed: false,
-        live: true,
     })
 }
 

@@ -14,7 +14,7 @@ ghost use Rattle.std.specs.Prelude.{◌*◌, ◌<◌, ◌≡◌, ◌^◌, [], �
 use crate::engines::stream::end_stream;
 use crate::fault::output_fault;
 use crate::settings::{Outcome, Settings};
-use crate::waiting::{AHEAD, Peek, flush_sink, waits_for_message};
+use crate::waiting::{AHEAD, FlushNever, Flushing, flush_sink};
 use cap_canon::canonical_over;
 use cap_frame::{ByteMessage, Segments, read_into};
 use cap_spec::StrictRefusal;
@@ -105,13 +105,14 @@ struct CanonBuffers {
 
 /// Reads the next message into the buffer of the last one, and puts its copy, for which there is a
 /// buffer too. `false` if the stream ends before it.
-fn put_next<S: Peek, K: WordSink>(
+fn put_next<S: WordSource, K: WordSink, F: Flushing<S>>(
     alloc: Global,
     buffers: &mut CanonBuffers,
     source: &mut S,
     sink: &mut K,
     settings: &Settings,
     demands: Demands,
+    flushing: &F,
 ) -> Result<bool, Cause>
     ensures some { result ≡ Ok true → let s = settings.now in PutsNext S.WordSource K.WordSink
         demands (words_of s.limits) (depth_of s.limits) (limit_of s.size)
@@ -129,7 +130,7 @@ fn put_next<S: Peek, K: WordSink>(
             if let Err(cause) = put_copy(alloc, sink, &view, &mut buffers.copy, limits, demands) {
                 return Err(cause);
             }
-            let waits = waits_for_message(source, settings, &mut buffers.ahead);
+            let waits = flushing.before_message(source, size, &mut buffers.ahead);
             match flush_sink(sink, waits) {
                 Ok(()) => Ok(true),
                 Err(fault) => Err(Cause::Output(output_fault(fault))),
@@ -142,12 +143,13 @@ fn put_next<S: Peek, K: WordSink>(
 
 /// Puts the copies of the messages of a stream. Returns how many were put, and why there were no
 /// more. The sink isn't finished yet.
-fn put_copies<S: Peek, K: WordSink>(
+fn put_copies<S: WordSource, K: WordSink, F: Flushing<S>>(
     alloc: Global,
     source: &mut S,
     sink: &mut K,
     settings: &Settings,
     demands: Demands,
+    flushing: &F,
 ) -> (u32, Result<(), Cause>)
     ensures { let s = settings.now in Making S.WordSource K.WordSink
         demands (words_of s.limits) (depth_of s.limits) (limit_of s.size) s.messages
@@ -159,7 +161,15 @@ fn put_copies<S: Peek, K: WordSink>(
         ahead: [0; AHEAD],
     };
     for number in 0..settings.messages {
-        match put_next(alloc, &mut buffers, source, sink, settings, demands) {
+        match put_next(
+            alloc,
+            &mut buffers,
+            source,
+            sink,
+            settings,
+            demands,
+            flushing,
+        ) {
             Ok(true) => {}
             Ok(false) => return (number, Ok(())),
             Err(cause) => return (number, Err(cause)),
@@ -179,18 +189,19 @@ fn without_fault(end: &Result<(), Cause>) -> bool
 }
 
 /// Puts the copies of the messages of a stream, and finishes the sink unless the output failed.
-fn make_copies<S: Peek, K: WordSink>(
+fn make_copies<S: WordSource, K: WordSink, F: Flushing<S>>(
     alloc: Global,
     source: &mut S,
     sink: &mut K,
     settings: &Settings,
     demands: Demands,
+    flushing: &F,
 ) -> (u32, Result<(), Cause>)
     ensures { let s = settings.now in Made S.WordSource K.WordSink
         demands (words_of s.limits) (depth_of s.limits) (limit_of s.size) s.messages
         source.old source.new sink.old sink.new result.0 result.1 }
 {
-    let (messages, end) = put_copies(alloc, source, sink, settings, demands);
+    let (messages, end) = put_copies(alloc, source, sink, settings, demands, flushing);
     if without_fault(&end) {
         if let Err(fault) = sink.finish() {
             return (messages, Err(Cause::Output(output_fault(fault))));
@@ -199,12 +210,12 @@ fn make_copies<S: Peek, K: WordSink>(
     (messages, end)
 }
 
-/// Does what [`run_canon_with`] does, without demands.
+/// Does what [`run_canon_with`] does, without demands and without a flush.
 ///
 /// # Errors
 ///
 /// Those of [`run_canon_with`], without [`Cause::NotStrict`].
-pub fn run_canon<S: Peek, K: WordSink>(
+pub fn run_canon<S: WordSource, K: WordSink>(
     alloc: Global,
     source: &mut S,
     sink: &mut K,
@@ -214,14 +225,21 @@ pub fn run_canon<S: Peek, K: WordSink>(
         (words_of s.limits) (depth_of s.limits) (limit_of s.size) s.messages
         source.old source.new sink.old sink.new result }
 {
-    run_canon_with(alloc, source, sink, settings, Demands::default())
+    run_canon_with(
+        alloc,
+        source,
+        sink,
+        settings,
+        Demands::default(),
+        &FlushNever,
+    )
 }
 
 /// Reads the messages of a stream to its end, and puts the canonical copy of each to a sink. Each
 /// copy is put as a framed message of one segment (encoding: Canonicalization, Serialization Over a
 /// Stream). The run ends at a message that isn't accepted, or doesn't meet the demands (profile).
 ///
-/// The copy of a message is put before the next message is read, and flushed as `settings.live` says.
+/// The copy of a message is put before the next message is read, and flushed as `flushing` says.
 /// The sink is finished at the end, and before an error is returned, unless the output failed. It is
 /// closed after the call in any case.
 ///
@@ -246,18 +264,19 @@ pub fn run_canon<S: Peek, K: WordSink>(
 /// - [`Cause::Output`]: the output failed as a copy was put or flushed, or as the sink was
 ///   finished. It took a prefix of the text of the copies. If finishing the sink fails after
 ///   another error, `Output` is returned.
-pub fn run_canon_with<S: Peek, K: WordSink>(
+pub fn run_canon_with<S: WordSource, K: WordSink, F: Flushing<S>>(
     alloc: Global,
     source: &mut S,
     sink: &mut K,
     settings: &Settings,
     demands: Demands,
+    flushing: &F,
 ) -> Result<Outcome, RunFault>
     ensures { let s = settings.now in MakesCopiesUnder S.WordSource K.WordSink
         demands (words_of s.limits) (depth_of s.limits) (limit_of s.size) s.messages
         source.old source.new sink.old sink.new result }
 {
-    let (messages, end) = make_copies(alloc, source, sink, settings, demands);
+    let (messages, end) = make_copies(alloc, source, sink, settings, demands, flushing);
     match end {
         Ok(()) => Ok(Outcome {
             messages,

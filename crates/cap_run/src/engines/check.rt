@@ -11,12 +11,12 @@ ghost use Rattle.std.specs.Prelude.{◌≡◌, if◌then◌else◌};
 use crate::engines::stream::Counted;
 use crate::engines::whole::{Judge, after_text, judge_all};
 use crate::settings::{Outcome, Settings};
-use crate::waiting::Peek;
+use crate::waiting::{FlushNever, Flushing};
 use cap_canon::check_with;
 use cap_frame::Segments;
 use cap_text::{Cause, Page, RunFault, write_check, write_refused};
 use cap_vet::{Demands, Limits};
-use cap_words::ByteOut;
+use cap_words::{ByteOut, WordSource};
 use std::alloc::Global;
 
 /// Vets a message under demands, and writes whether it is canonical if it meets them. Otherwise it
@@ -63,12 +63,12 @@ fn count_of(canonical: bool) -> Counted
     }
 }
 
-/// Does what [`run_check_with`] does, without demands.
+/// Does what [`run_check_with`] does, without demands and without a flush.
 ///
 /// # Errors
 ///
 /// Those of [`run_check_with`].
-pub fn run_check<S: Peek, O: ByteOut>(
+pub fn run_check<S: WordSource, O: ByteOut>(
     alloc: Global,
     source: &mut S,
     out: &mut O,
@@ -78,7 +78,14 @@ pub fn run_check<S: Peek, O: ByteOut>(
         (ReportsCheckUnder no_demands (words_of s.limits) (depth_of s.limits)) AllocatesNone
         (limit_of s.size) s.messages source.old source.new out.old out.new result }
 {
-    run_check_with(alloc, source, out, settings, Demands::default())
+    run_check_with(
+        alloc,
+        source,
+        out,
+        settings,
+        Demands::default(),
+        &FlushNever,
+    )
 }
 
 /// Reads the messages of a stream to its end, and writes for each whether it is canonical. A
@@ -88,7 +95,7 @@ pub fn run_check<S: Peek, O: ByteOut>(
 /// For a message that isn't accepted within `settings.limits`, or doesn't meet the demands, it
 /// writes the line of [`run_vet_with`](crate::run_vet_with). A message that is refused or isn't
 /// canonical is counted, and doesn't end the run. The line of a message is written before the next
-/// message is read, and flushed as `settings.live` says.
+/// message is read, and flushed as `flushing` says.
 ///
 /// Allocates only to hold a message that is larger than all before it: eight bytes for each word.
 ///
@@ -103,12 +110,13 @@ pub fn run_check<S: Peek, O: ByteOut>(
 ///   [`FrameFault`](cap_frame::FrameFault).
 /// - [`Cause::Output`](crate::Cause::Output): the output failed as the line was written or flushed.
 ///   It took a prefix of the line, or all of it.
-pub fn run_check_with<S: Peek, O: ByteOut>(
+pub fn run_check_with<S: WordSource, O: ByteOut, F: Flushing<S>>(
     alloc: Global,
     source: &mut S,
     out: &mut O,
     settings: &Settings,
     demands: Demands,
+    flushing: &F,
 ) -> Result<Outcome, RunFault>
     ensures { let s = settings.now in ReportsStream S.WordSource O.ByteOut
         (ReportsCheckUnder demands (words_of s.limits) (depth_of s.limits)) AllocatesNone
@@ -118,5 +126,5 @@ pub fn run_check_with<S: Peek, O: ByteOut>(
         limits: settings.limits,
         demands,
     };
-    judge_all(alloc, source, out, settings, checking)
+    judge_all(alloc, source, out, settings, checking, flushing)
 }

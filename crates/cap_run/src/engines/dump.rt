@@ -10,11 +10,11 @@ ghost use Rattle.cap_vet.specs.Limits.{depth_of, words_of};
 use crate::engines::stream::Counted;
 use crate::engines::whole::{Printer, after_text, vet_all};
 use crate::settings::{Outcome, Settings};
-use crate::waiting::Peek;
+use crate::waiting::{FlushNever, Flushing};
 use cap_frame::Segments;
 use cap_text::{Cause, Page, RunFault, write_tree};
 use cap_vet::{Demands, Vetted};
-use cap_words::ByteOut;
+use cap_words::{ByteOut, WordSource};
 use std::alloc::Global;
 
 /// Writes the tree of a message.
@@ -37,12 +37,12 @@ impl Printer for DumpPrinter {
     }
 }
 
-/// Does what [`run_dump_with`] does, without demands.
+/// Does what [`run_dump_with`] does, without demands and without a flush.
 ///
 /// # Errors
 ///
 /// Those of [`run_dump_with`].
-pub fn run_dump<S: Peek, O: ByteOut>(
+pub fn run_dump<S: WordSource, O: ByteOut>(
     alloc: Global,
     source: &mut S,
     out: &mut O,
@@ -52,7 +52,14 @@ pub fn run_dump<S: Peek, O: ByteOut>(
         (ReportsDumpUnder no_demands (words_of s.limits) (depth_of s.limits)) AllocatesNone
         (limit_of s.size) s.messages source.old source.new out.old out.new result }
 {
-    run_dump_with(alloc, source, out, settings, Demands::default())
+    run_dump_with(
+        alloc,
+        source,
+        out,
+        settings,
+        Demands::default(),
+        &FlushNever,
+    )
 }
 
 /// Reads the messages of a stream to its end, and writes for each the line of
@@ -60,7 +67,7 @@ pub fn run_dump<S: Peek, O: ByteOut>(
 /// message's whole tree, as [`dump`](crate::dump) does.
 ///
 /// A refused message is counted, and doesn't end the run. The text of a message is written before
-/// the next message is read, and flushed as `settings.live` says.
+/// the next message is read, and flushed as `flushing` says.
 ///
 /// Allocates only to hold a message that is larger than all before it: eight bytes for each word.
 ///
@@ -75,16 +82,17 @@ pub fn run_dump<S: Peek, O: ByteOut>(
 ///   [`FrameFault`](cap_frame::FrameFault).
 /// - [`Cause::Output`](crate::Cause::Output): the output failed as the text was written or flushed.
 ///   It took a prefix of the text, or all of it.
-pub fn run_dump_with<S: Peek, O: ByteOut>(
+pub fn run_dump_with<S: WordSource, O: ByteOut, F: Flushing<S>>(
     alloc: Global,
     source: &mut S,
     out: &mut O,
     settings: &Settings,
     demands: Demands,
+    flushing: &F,
 ) -> Result<Outcome, RunFault>
     ensures { let s = settings.now in ReportsStream S.WordSource O.ByteOut
         (ReportsDumpUnder demands (words_of s.limits) (depth_of s.limits)) AllocatesNone
         (limit_of s.size) s.messages source.old source.new out.old out.new result }
 {
-    vet_all(alloc, source, out, settings, demands, DumpPrinter)
+    vet_all(alloc, source, out, settings, demands, DumpPrinter, flushing)
 }

@@ -8,11 +8,11 @@ ghost use Rattle.cap_frame.specs.Limit.{limit_of};
 use crate::engines::stream::Counted;
 use crate::engines::whole::{Judge, after_text, judge_all};
 use crate::settings::{Outcome, Settings};
-use crate::waiting::Peek;
+use crate::waiting::{FlushNever, Flushing};
 use cap_frame::Segments;
 use cap_text::{Cause, Page, RunFault, write_accepted, write_overlap, write_refused};
 use cap_vet::{Demands, ExclusiveRefusal, Limits, vet_exclusive};
-use cap_words::ByteOut;
+use cap_words::{ByteOut, WordSource};
 use std::alloc::Global;
 
 /// Vets a message under demands, and writes the numbers of its tree if it meets them and uses no word
@@ -61,13 +61,13 @@ impl Judge for ExclusiveVetting {
     }
 }
 
-/// Does what [`run_vet_exclusive_with`] does, without demands: a message is accepted if its root
-/// denotes a finite tree within `settings.limits` and it uses no word twice.
+/// Does what [`run_vet_exclusive_with`] does, without demands and without a flush: a message is
+/// accepted if its root denotes a finite tree within `settings.limits` and it uses no word twice.
 ///
 /// # Errors
 ///
 /// Those of [`run_vet_exclusive_with`].
-pub fn run_vet_exclusive<S: Peek, O: ByteOut>(
+pub fn run_vet_exclusive<S: WordSource, O: ByteOut>(
     alloc: Global,
     source: &mut S,
     out: &mut O,
@@ -77,7 +77,14 @@ pub fn run_vet_exclusive<S: Peek, O: ByteOut>(
         (OrFaultIn no_demands ReportsMarked s.limits) (AllocatesIn no_demands AllocatesMarks s.limits)
         (limit_of s.size) s.messages source.old source.new out.old out.new result }
 {
-    run_vet_exclusive_with(alloc, source, out, settings, Demands::default())
+    run_vet_exclusive_with(
+        alloc,
+        source,
+        out,
+        settings,
+        Demands::default(),
+        &FlushNever,
+    )
 }
 
 /// Reads the messages of a stream to its end, and vets each exclusively under demands (profile). A
@@ -92,7 +99,7 @@ pub fn run_vet_exclusive<S: Peek, O: ByteOut>(
 ///
 /// A message that is refused, or in which a pointer overlaps, is counted as refused. It doesn't end
 /// the run. The line of a message is written before the next message is read, and flushed as
-/// `settings.live` says.
+/// `flushing` says.
 ///
 /// Allocates to hold a message only if it is larger than all before it: eight bytes for each word.
 /// For each message it allocates the marks: one bit for each word, and at most 64 bits more.
@@ -109,12 +116,13 @@ pub fn run_vet_exclusive<S: Peek, O: ByteOut>(
 ///   the line, or all of it.
 /// - [`Cause::Memory`]: the message meets the demands within the limits, and the allocation of the
 ///   marks failed. Nothing was written for it.
-pub fn run_vet_exclusive_with<S: Peek, O: ByteOut>(
+pub fn run_vet_exclusive_with<S: WordSource, O: ByteOut, F: Flushing<S>>(
     alloc: Global,
     source: &mut S,
     out: &mut O,
     settings: &Settings,
     demands: Demands,
+    flushing: &F,
 ) -> Result<Outcome, RunFault>
     ensures { let s = settings.now in ReportsStream S.WordSource O.ByteOut
         (OrFaultIn demands ReportsMarked s.limits) (AllocatesIn demands AllocatesMarks s.limits)
@@ -125,5 +133,5 @@ pub fn run_vet_exclusive_with<S: Peek, O: ByteOut>(
         limits: settings.limits,
         demands,
     };
-    judge_all(alloc, source, out, settings, vetting)
+    judge_all(alloc, source, out, settings, vetting, flushing)
 }

@@ -26,8 +26,8 @@ use crate::engines::passing::write_more;
 use crate::engines::stream::Counted;
 use crate::engines::vet::VetPrinter;
 use crate::engines::whole::{Printer, after_text};
-use crate::settings::{Outcome, Settings};
-use crate::waiting::Peek;
+use crate::settings::{ExplainSettings, Outcome};
+use crate::waiting::Flushing;
 use cap_explain::{
     Explanation, MessageStart, Numbers, explain, explain_earlier, explain_overlap, refusal_charge,
 };
@@ -38,7 +38,7 @@ use cap_text::{
 };
 use cap_trace::{EarlierPointer, NamedPath};
 use cap_vet::{Demands, ExclusiveRefusal, Limits, Vetted, limits_under, vet_with};
-use cap_words::{ByteOut, OutFault};
+use cap_words::{ByteOut, OutFault, WordSource};
 use std::alloc::Global;
 
 /// The greatest limits.
@@ -438,12 +438,13 @@ impl<T: PlacedPrinter> PlacedJudge for Explaining<T> {
 ///
 /// Those of [`run_vet_with`](crate::run_vet_with). A message's text is its line and the lines that
 /// explain it. The error has what is known of a message that can't be read.
-pub fn run_explain<S: Peek, O: ByteOut>(
+pub fn run_explain<S: WordSource, O: ByteOut, F: Flushing<S>>(
     alloc: Global,
     source: &mut S,
     out: &mut O,
-    settings: &Settings,
+    settings: &ExplainSettings,
     demands: Demands,
+    flushing: &F,
 ) -> Result<Outcome, ExplainedFault>
     ensures { let s = settings.now in ExplainsStream S.WordSource O.ByteOut
         (ReportsExplainedUnder s.packed demands (words_of s.limits) (depth_of s.limits)) AllocatesNone
@@ -455,7 +456,7 @@ pub fn run_explain<S: Peek, O: ByteOut>(
         packed: settings.packed,
         printer: AcceptedPrinter,
     };
-    explain_all(alloc, source, out, settings, explaining)
+    explain_all(alloc, source, out, settings, explaining, flushing)
 }
 
 /// Does what [`run_vet_exclusive_with`](crate::run_vet_exclusive_with) does, and explains each
@@ -465,12 +466,13 @@ pub fn run_explain<S: Peek, O: ByteOut>(
 ///
 /// Those of [`run_vet_exclusive_with`](crate::run_vet_exclusive_with). A message's text is its line
 /// and the lines that explain it. The error has what is known of a message that can't be read.
-pub fn run_explain_exclusive<S: Peek, O: ByteOut>(
+pub fn run_explain_exclusive<S: WordSource, O: ByteOut, F: Flushing<S>>(
     alloc: Global,
     source: &mut S,
     out: &mut O,
-    settings: &Settings,
+    settings: &ExplainSettings,
     demands: Demands,
+    flushing: &F,
 ) -> Result<Outcome, ExplainedFault>
     ensures { let s = settings.now in ExplainsStream S.WordSource O.ByteOut
         (ReportsExplainedExclusiveUnder s.packed demands (words_of s.limits) (depth_of s.limits))
@@ -486,5 +488,5 @@ pub fn run_explain_exclusive<S: Peek, O: ByteOut>(
             packed: settings.packed,
         },
     };
-    explain_all(alloc, source, out, settings, explaining)
+    explain_all(alloc, source, out, settings, explaining, flushing)
 }

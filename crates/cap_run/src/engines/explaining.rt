@@ -11,8 +11,8 @@ ghost use Rattle.cap_run.specs.Streams.{EndsStream};
 ghost use Rattle.std.specs.Prelude.{◌<◌, ◌^◌, ◌≡◌, ◌⊎◌, IfErr, IfOk, IfSome, List, OnOk, false, true, ℕ};
 
 use crate::engines::stream::{Counted, count};
-use crate::settings::{Outcome, Settings};
-use crate::waiting::{AHEAD, Peek, flush_output, waits_for_message};
+use crate::settings::{ExplainSettings, Outcome};
+use crate::waiting::{AHEAD, Flushing, flush_output};
 use cap_explain::frame_words;
 use cap_frame::{
     ByteMessage, FrameFault, Outline, Segments, TableSums, read_noting, read_outline_noting,
@@ -103,7 +103,12 @@ fn is_cut_after<S: WordSource>(source: &mut S, fault: FrameFault) -> bool
 }
 
 /// What is known of a message that can't be read.
-fn break_at(settings: &Settings, start: u64, table: Option<TableSums>, is_cut: bool) -> StreamBreak
+fn break_at(
+    settings: &ExplainSettings,
+    start: u64,
+    table: Option<TableSums>,
+    is_cut: bool,
+) -> StreamBreak
     ensures { let s = settings.now in result ≡ record {
       start = start;
       packed = s.packed;
@@ -125,7 +130,7 @@ fn break_at(settings: &Settings, start: u64, table: Option<TableSums>, is_cut: b
 fn read_next<S: WordSource>(
     alloc: Global,
     source: &mut S,
-    settings: &Settings,
+    settings: &ExplainSettings,
     buffers: &mut ExplainBuffers,
 ) -> Result<bool, FrameFault>
     ensures read { ReadsFrame S.WordSource (λ m. held_segments buffers.new.message ≡ m)
@@ -155,7 +160,7 @@ fn read_next<S: WordSource>(
 /// read, `at` is what is known of it.
 fn end_explained<S: WordSource>(
     source: &mut S,
-    settings: &Settings,
+    settings: &ExplainSettings,
     at: &mut StreamBreak,
 ) -> Result<(), Cause>
     ensures ok { OnOk result (EndsStream S.WordSource source.old source.new) }
@@ -192,7 +197,7 @@ impl<J: PlacedJudge> Explainer<J> {
         buffers: &mut ExplainBuffers,
         source: &mut S,
         out: &mut O,
-        settings: &Settings,
+        settings: &ExplainSettings,
         before: u64,
         number: u32,
     ) -> Result<Option<Counted>, Cause>
@@ -226,11 +231,12 @@ impl<J: PlacedJudge> Explainer<J> {
     }
 
     /// Reads the messages of a stream to its end, and writes the text of each.
-    fn print_each<S: Peek, O: ByteOut>(
+    fn print_each<S: WordSource, O: ByteOut, F: Flushing<S>>(
         &self,
         source: &mut S,
         out: &mut O,
-        settings: &Settings,
+        settings: &ExplainSettings,
+        flushing: &F,
     ) -> Result<Outcome, ExplainedFault>
         ensures ok { let s = settings.now in PlacedToEnd S.WordSource O.ByteOut
             (J.reports self.now.judge) (limit_of s.size) s.messages
@@ -252,7 +258,7 @@ impl<J: PlacedJudge> Explainer<J> {
         for number in 0..settings.messages {
             match self.print_next(&mut buffers, source, out, settings, before, number) {
                 Ok(Some(counted)) => {
-                    let waits = waits_for_message(source, settings, &mut ahead);
+                    let waits = flushing.before_message(source, settings.size, &mut ahead);
                     match flush_output(out, waits) {
                         Ok(()) => {
                             outcome = count(outcome, counted);
@@ -288,16 +294,17 @@ fn stopped_at(message: u32, cause: Cause, at: StreamBreak) -> ExplainedFault
 
 /// Reads each message of a stream whole, and writes the text that comes of it. The error says what
 /// is known of a message that can't be read.
-pub(crate) fn explain_all<S: Peek, O: ByteOut, J: PlacedJudge + Drop>(
+pub(crate) fn explain_all<S: WordSource, O: ByteOut, J: PlacedJudge + Drop, F: Flushing<S>>(
     alloc: Global,
     source: &mut S,
     out: &mut O,
-    settings: &Settings,
+    settings: &ExplainSettings,
     judge: J,
+    flushing: &F,
 ) -> Result<Outcome, ExplainedFault>
     ensures { let s = settings.now in ExplainsStream S.WordSource O.ByteOut (J.reports judge)
         (J.allocates judge) s.packed (limit_of s.size) s.messages
         source.old source.new out.old out.new result }
 {
-    Explainer { alloc, judge }.print_each(source, out, settings)
+    Explainer { alloc, judge }.print_each(source, out, settings, flushing)
 }

@@ -9,11 +9,11 @@ ghost use Rattle.std.specs.Prelude.{◌≡◌, ◌≢◌, IfErr, IsFalse, IsTrue
 use crate::engines::sifting::{Passage, Sieve};
 use crate::engines::stream::{Counted, count, end_stream};
 use crate::settings::{FilterForm, Outcome, Settings};
-use crate::waiting::{AHEAD, Peek, waits_for_message};
+use crate::waiting::{AHEAD, Flushing};
 use cap_frame::{ByteMessage, read_into};
 use cap_text::{Cause, RunFault};
 use cap_vet::Demands;
-use cap_words::ByteOut;
+use cap_words::{ByteOut, WordSource};
 use std::alloc::Global;
 
 /// The message that was read last, and what else is kept from one message to the next.
@@ -26,14 +26,15 @@ struct FilterBuffers {
 }
 
 /// Reads the next message and sifts it. `None` if the stream ends before it. The frame of an
-/// accepted message is flushed if the input may have to be waited for before the next one is whole.
-fn sift_next<S: Peek, O: ByteOut, E: ByteOut>(
+/// accepted message is flushed as `flushing` says.
+fn sift_next<S: WordSource, O: ByteOut, E: ByteOut, F: Flushing<S>>(
     sieve: &Sieve,
     buffers: &mut FilterBuffers,
     source: &mut S,
     out: &mut O,
     log: &mut E,
     settings: &Settings,
+    flushing: &F,
     number: u32,
 ) -> Result<Option<Counted>, Cause>
     ensures some { (counted : Counted) → result ≡ Ok (Some counted) →
@@ -48,7 +49,7 @@ fn sift_next<S: Peek, O: ByteOut, E: ByteOut>(
 {
     match read_into(sieve.alloc, source, settings.size, &mut buffers.message) {
         Ok(true) => {
-            let wait = !waits_for_message(source, settings, &mut buffers.ahead);
+            let wait = !flushing.before_message(source, settings.size, &mut buffers.ahead);
             let message = buffers.message.view();
             match sieve.sift(&mut buffers.passage, out, log, wait, number, &message) {
                 Ok(counted) => Ok(Some(counted)),
@@ -72,12 +73,13 @@ fn ends_after(counted: Counted, stop: bool) -> bool
 }
 
 /// Sifts the messages of a stream to its end, or to the first refused one.
-fn sift_each<S: Peek, O: ByteOut, E: ByteOut>(
+fn sift_each<S: WordSource, O: ByteOut, E: ByteOut, F: Flushing<S>>(
     sieve: &Sieve,
     source: &mut S,
     out: &mut O,
     log: &mut E,
     settings: &Settings,
+    flushing: &F,
 ) -> Result<Outcome, RunFault>
     ensures ok { SieveAll S.WordSource O.ByteOut E.ByteOut settings.now source.old source.new
         out.old out.new log.old log.new sieve.now result }
@@ -95,7 +97,16 @@ fn sift_each<S: Peek, O: ByteOut, E: ByteOut>(
         passage: Passage::new(),
     };
     for number in 0..settings.messages {
-        match sift_next(sieve, &mut buffers, source, out, log, settings, number) {
+        match sift_next(
+            sieve,
+            &mut buffers,
+            source,
+            out,
+            log,
+            settings,
+            flushing,
+            number,
+        ) {
             Ok(Some(counted)) => {
                 outcome = count(outcome, counted);
                 if ends_after(counted, sieve.form.stop) {
@@ -132,7 +143,7 @@ fn sift_each<S: Peek, O: ByteOut, E: ByteOut>(
 /// vetted. The frame of a message, or its line, is written before the next message is read. If `log`
 /// fails, it isn't called again, and the run goes on.
 ///
-/// Frames are flushed as `settings.live` says. The frames that wait are flushed before a line is
+/// Frames are flushed as `flushing` says. The frames that wait are flushed before a line is
 /// written. They still wait if the run ends with [`Cause::TooManyMessages`], or as an allocation
 /// fails.
 ///
@@ -154,7 +165,7 @@ fn sift_each<S: Peek, O: ByteOut, E: ByteOut>(
 ///   accepted, and a flush of the frames before it failed. Its line wasn't written.
 /// - [`Cause::Memory`]: with `form.exclusive` alone. The message meets the demands, and the
 ///   allocation of the marks failed. Nothing was written for it.
-pub fn run_filter<S: Peek, O: ByteOut, E: ByteOut>(
+pub fn run_filter<S: WordSource, O: ByteOut, E: ByteOut, F: Flushing<S>>(
     alloc: Global,
     source: &mut S,
     out: &mut O,
@@ -162,6 +173,7 @@ pub fn run_filter<S: Peek, O: ByteOut, E: ByteOut>(
     settings: &Settings,
     demands: Demands,
     form: FilterForm,
+    flushing: &F,
 ) -> Result<Outcome, RunFault>
     ensures { FiltersUnder S.WordSource O.ByteOut E.ByteOut settings.now source.old source.new
         out.old out.new log.old log.new form demands result }
@@ -172,5 +184,5 @@ pub fn run_filter<S: Peek, O: ByteOut, E: ByteOut>(
         demands,
         form,
     };
-    sift_each(&sieve, source, out, log, settings)
+    sift_each(&sieve, source, out, log, settings, flushing)
 }

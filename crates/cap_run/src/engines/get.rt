@@ -10,12 +10,12 @@ ghost use Rattle.cap_vet.specs.Limits.{depth_of, words_of};
 use crate::engines::stream::Counted;
 use crate::engines::whole::{Printer, after_text, vet_all};
 use crate::settings::{Outcome, Settings};
-use crate::waiting::Peek;
+use crate::waiting::{FlushNever, Flushing};
 use cap_frame::Segments;
 use cap_spec::Step;
 use cap_text::{Cause, Page, RunFault, write_node};
 use cap_vet::{Demands, Vetted};
-use cap_words::ByteOut;
+use cap_words::{ByteOut, WordSource};
 use std::alloc::Global;
 
 /// Writes the node at this path of a message's tree.
@@ -41,12 +41,12 @@ impl<'p> Printer for GetPrinter<'p> {
     }
 }
 
-/// Does what [`run_get_with`] does, without demands.
+/// Does what [`run_get_with`] does, without demands and without a flush.
 ///
 /// # Errors
 ///
 /// Those of [`run_get_with`].
-pub fn run_get<S: Peek, O: ByteOut>(
+pub fn run_get<S: WordSource, O: ByteOut>(
     alloc: Global,
     source: &mut S,
     out: &mut O,
@@ -57,7 +57,15 @@ pub fn run_get<S: Peek, O: ByteOut>(
         (ReportsGetUnder no_demands (words_of s.limits) (depth_of s.limits) path.now) AllocatesNone
         (limit_of s.size) s.messages source.old source.new out.old out.new result }
 {
-    run_get_with(alloc, source, out, settings, Demands::default(), path)
+    run_get_with(
+        alloc,
+        source,
+        out,
+        settings,
+        Demands::default(),
+        path,
+        &FlushNever,
+    )
 }
 
 /// Reads the messages of a stream to its end, and writes for each the node of its tree at the path,
@@ -67,7 +75,7 @@ pub fn run_get<S: Peek, O: ByteOut>(
 ///
 /// A message without such a node isn't refused. A refused message is counted, and doesn't end the
 /// run. The text of a message is written before the next message is read, and flushed as
-/// `settings.live` says.
+/// `flushing` says.
 ///
 /// Allocates only to hold a message that is larger than all before it: eight bytes for each word.
 ///
@@ -82,17 +90,26 @@ pub fn run_get<S: Peek, O: ByteOut>(
 ///   [`FrameFault`](cap_frame::FrameFault).
 /// - [`Cause::Output`](crate::Cause::Output): the output failed as the text was written or flushed.
 ///   It took a prefix of the text, or all of it.
-pub fn run_get_with<S: Peek, O: ByteOut>(
+pub fn run_get_with<S: WordSource, O: ByteOut, F: Flushing<S>>(
     alloc: Global,
     source: &mut S,
     out: &mut O,
     settings: &Settings,
     demands: Demands,
     path: &[Step],
+    flushing: &F,
 ) -> Result<Outcome, RunFault>
     ensures { let s = settings.now in ReportsStream S.WordSource O.ByteOut
         (ReportsGetUnder demands (words_of s.limits) (depth_of s.limits) path.now) AllocatesNone
         (limit_of s.size) s.messages source.old source.new out.old out.new result }
 {
-    vet_all(alloc, source, out, settings, demands, GetPrinter { path })
+    vet_all(
+        alloc,
+        source,
+        out,
+        settings,
+        demands,
+        GetPrinter { path },
+        flushing,
+    )
 }

@@ -7,7 +7,7 @@ ghost use Rattle.std.specs.Prelude.{false};
 
 use crate::engines::stream::{Counted, Engine, print_all};
 use crate::settings::{Outcome, Settings};
-use crate::waiting::Peek;
+use crate::waiting::{FlushNever, Flushing};
 use cap_frame::{Outline, SizeLimit, read_outline};
 use cap_text::{Cause, Page, RunFault, write_segments};
 use cap_words::{ByteOut, WordSource};
@@ -58,10 +58,26 @@ impl Engine for SegmentsEngine {
     }
 }
 
+/// Does what [`run_segments_with`] does, without a flush.
+///
+/// # Errors
+///
+/// Those of [`run_segments_with`].
+pub fn run_segments<S: WordSource, O: ByteOut>(
+    source: &mut S,
+    out: &mut O,
+    settings: &Settings,
+) -> Result<Outcome, RunFault>
+    ensures { let s = settings.now in ShowsStream S.WordSource O.ByteOut
+        (limit_of s.size) s.messages source.old source.new out.old out.new result }
+{
+    run_segments_with(source, out, settings, &FlushNever)
+}
+
 /// Reads the messages of a stream to its end, and writes for each its segments, their sizes in
 /// words and the root word (encoding: Serialization Over a Stream). The messages aren't vetted.
 ///
-/// The text of a message is written before the next message is read, and flushed as `settings.live`
+/// The text of a message is written before the next message is read, and flushed as `flushing`
 /// says. The words of a message aren't held, and nothing is allocated.
 ///
 /// # Errors
@@ -76,13 +92,14 @@ impl Engine for SegmentsEngine {
 ///   [`FrameFault::Memory`](cap_frame::FrameFault::Memory).
 /// - [`Cause::Output`](crate::Cause::Output): the output failed as the text was written or flushed.
 ///   It took a prefix of the text, or all of it.
-pub fn run_segments<S: Peek, O: ByteOut>(
+pub fn run_segments_with<S: WordSource, O: ByteOut, F: Flushing<S>>(
     source: &mut S,
     out: &mut O,
     settings: &Settings,
+    flushing: &F,
 ) -> Result<Outcome, RunFault>
     ensures { let s = settings.now in ShowsStream S.WordSource O.ByteOut
         (limit_of s.size) s.messages source.old source.new out.old out.new result }
 {
-    print_all(source, out, settings, &SegmentsEngine)
+    print_all(source, out, settings, &SegmentsEngine, flushing)
 }

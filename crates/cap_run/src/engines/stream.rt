@@ -8,7 +8,7 @@ ghost use Rattle.cap_run.specs.Reporting.{one_noncanonical, one_refused};
 ghost use Rattle.std.specs.Prelude.{◌+◌, ◌-◌, ◌<◌, ◌^◌, ◌≡◌, ◌≤◌, Bool, IfErr, IfOk, IfSome, List, OnOk, true, ℕ};
 
 use crate::settings::{Outcome, Settings};
-use crate::waiting::{AHEAD, Peek, flush_output, waits_for_message};
+use crate::waiting::{AHEAD, Flushing, flush_output};
 use cap_frame::{FrameFault, Outline, SizeLimit, read_outline};
 use cap_text::{Cause, RunFault};
 use cap_words::{ByteOut, OutFault, WordSource};
@@ -116,11 +116,12 @@ pub(crate) fn count(outcome: Outcome, counted: Counted) -> Outcome
 }
 
 // Reads the messages of a stream to its end, and writes the text of each.
-fn print_each<S: Peek, O: ByteOut, E: Engine>(
+fn print_each<S: WordSource, O: ByteOut, E: Engine, F: Flushing<S>>(
     source: &mut S,
     out: &mut O,
     settings: &Settings,
     engine: &E,
+    flushing: &F,
 ) -> Result<Outcome, RunFault>
     ensures ok { let s = settings.now in ReachesEnd S.WordSource O.ByteOut (E.reports engine.now)
         (limit_of s.size) s.messages source.old source.new out.old out.new result }
@@ -141,7 +142,7 @@ fn print_each<S: Peek, O: ByteOut, E: Engine>(
     for number in 0..settings.messages {
         match engine.print_next(&mut buffers, source, out, settings.size, number) {
             Ok(Some(counted)) => {
-                let waits = waits_for_message(source, settings, &mut ahead);
+                let waits = flushing.before_message(source, settings.size, &mut ahead);
                 match flush_output(out, waits) {
                     Ok(()) => outcome = count(outcome, counted),
                     Err(fault) => return Err(output_fault_at(number, fault)),
@@ -164,12 +165,13 @@ fn print_each<S: Peek, O: ByteOut, E: Engine>(
 }
 
 /// Reads the messages of a stream to its end, and writes the text of each before it reads the next.
-/// It flushes the text if the input may have to be waited for before the next message is whole.
-pub(crate) fn print_all<S: Peek, O: ByteOut, E: Engine>(
+/// It flushes the text as `flushing` says.
+pub(crate) fn print_all<S: WordSource, O: ByteOut, E: Engine, F: Flushing<S>>(
     source: &mut S,
     out: &mut O,
     settings: &Settings,
     engine: &E,
+    flushing: &F,
 ) -> Result<Outcome, RunFault>
     ensures reported { let s = settings.now in ReportsStream S.WordSource O.ByteOut
         (E.reports engine.now) (E.allocates engine.now) (limit_of s.size) s.messages
@@ -178,5 +180,5 @@ pub(crate) fn print_all<S: Peek, O: ByteOut, E: Engine>(
         result ≡ Err (record { message = n; cause = Cause.Frame FrameFault.Memory }) →
         E.takes_memory ≡ true }
 {
-    print_each(source, out, settings, engine)
+    print_each(source, out, settings, engine, flushing)
 }

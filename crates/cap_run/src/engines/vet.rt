@@ -10,11 +10,11 @@ ghost use Rattle.cap_vet.specs.Limits.{depth_of, words_of};
 use crate::engines::stream::Counted;
 use crate::engines::whole::{Printer, after_text, vet_all};
 use crate::settings::{Outcome, Settings};
-use crate::waiting::Peek;
+use crate::waiting::{FlushNever, Flushing};
 use cap_frame::Segments;
 use cap_text::{Cause, Page, RunFault, write_accepted};
 use cap_vet::{Demands, Vetted};
-use cap_words::ByteOut;
+use cap_words::{ByteOut, WordSource};
 use std::alloc::Global;
 
 /// Writes the numbers of a message's tree.
@@ -40,13 +40,13 @@ impl Printer for VetPrinter {
     }
 }
 
-/// Does what [`run_vet_with`] does, without demands: a message is accepted if its root denotes a
-/// finite tree within `settings.limits`.
+/// Does what [`run_vet_with`] does, without demands and without a flush: a message is accepted if
+/// its root denotes a finite tree within `settings.limits`.
 ///
 /// # Errors
 ///
 /// Those of [`run_vet_with`].
-pub fn run_vet<S: Peek, O: ByteOut>(
+pub fn run_vet<S: WordSource, O: ByteOut>(
     alloc: Global,
     source: &mut S,
     out: &mut O,
@@ -56,7 +56,14 @@ pub fn run_vet<S: Peek, O: ByteOut>(
         (ReportsVerdictUnder no_demands (words_of s.limits) (depth_of s.limits)) AllocatesNone
         (limit_of s.size) s.messages source.old source.new out.old out.new result }
 {
-    run_vet_with(alloc, source, out, settings, Demands::default())
+    run_vet_with(
+        alloc,
+        source,
+        out,
+        settings,
+        Demands::default(),
+        &FlushNever,
+    )
 }
 
 /// Reads the messages of a stream to its end, and vets each under demands (encoding: Security
@@ -66,7 +73,7 @@ pub fn run_vet<S: Peek, O: ByteOut>(
 /// place, see [`vet_with`](cap_vet::vet_with).
 ///
 /// A refused message is counted, and doesn't end the run. The line of a message is written before
-/// the next message is read, and flushed as `settings.live` says.
+/// the next message is read, and flushed as `flushing` says.
 ///
 /// Allocates only to hold a message that is larger than all before it: eight bytes for each word.
 ///
@@ -81,16 +88,17 @@ pub fn run_vet<S: Peek, O: ByteOut>(
 ///   [`FrameFault`](cap_frame::FrameFault).
 /// - [`Cause::Output`](crate::Cause::Output): the output failed as the line was written or flushed.
 ///   It took a prefix of the line, or all of it.
-pub fn run_vet_with<S: Peek, O: ByteOut>(
+pub fn run_vet_with<S: WordSource, O: ByteOut, F: Flushing<S>>(
     alloc: Global,
     source: &mut S,
     out: &mut O,
     settings: &Settings,
     demands: Demands,
+    flushing: &F,
 ) -> Result<Outcome, RunFault>
     ensures { let s = settings.now in ReportsStream S.WordSource O.ByteOut
         (ReportsVerdictUnder demands (words_of s.limits) (depth_of s.limits)) AllocatesNone
         (limit_of s.size) s.messages source.old source.new out.old out.new result }
 {
-    vet_all(alloc, source, out, settings, demands, VetPrinter)
+    vet_all(alloc, source, out, settings, demands, VetPrinter, flushing)
 }

@@ -11,7 +11,7 @@ ghost use Rattle.std.specs.Prelude.{◌≡◌, List, true, ℕ};
 
 use crate::engines::stream::{Counted, Engine, print_all};
 use crate::settings::{Outcome, Settings};
-use crate::waiting::Peek;
+use crate::waiting::Flushing;
 use cap_frame::{ByteMessage, Segments, SizeLimit, read_into};
 use cap_text::{Cause, Page, RunFault, write_refused};
 use cap_vet::{Demands, Limits, Vetted, vet_with};
@@ -171,27 +171,29 @@ impl<J: Judge> Engine for Whole<J> {
 }
 
 /// Reads each message of a stream whole, and writes the text that comes of it.
-pub(crate) fn judge_all<S: Peek, O: ByteOut, J: Judge + Drop>(
+pub(crate) fn judge_all<S: WordSource, O: ByteOut, J: Judge + Drop, F: Flushing<S>>(
     alloc: Global,
     source: &mut S,
     out: &mut O,
     settings: &Settings,
     judge: J,
+    flushing: &F,
 ) -> Result<Outcome, RunFault>
     ensures { let s = settings.now in ReportsStream S.WordSource O.ByteOut (J.reports judge)
         (J.allocates judge) (limit_of s.size) s.messages source.old source.new out.old out.new result }
 {
-    print_all(source, out, settings, &Whole { alloc, judge })
+    print_all(source, out, settings, &Whole { alloc, judge }, flushing)
 }
 
 /// Vets each message of a stream, and writes the text of a teller for each that meets the demands.
-pub(crate) fn vet_all<S: Peek, O: ByteOut, T: Printer + Drop>(
+pub(crate) fn vet_all<S: WordSource, O: ByteOut, T: Printer + Drop, F: Flushing<S>>(
     alloc: Global,
     source: &mut S,
     out: &mut O,
     settings: &Settings,
     demands: Demands,
     printer: T,
+    flushing: &F,
 ) -> Result<Outcome, RunFault>
     ensures { let s = settings.now in ReportsStream S.WordSource O.ByteOut
         (OrFaultIn demands (T.reports printer) s.limits)
@@ -203,5 +205,5 @@ pub(crate) fn vet_all<S: Peek, O: ByteOut, T: Printer + Drop>(
         demands,
         printer,
     };
-    judge_all(alloc, source, out, settings, vetting)
+    judge_all(alloc, source, out, settings, vetting, flushing)
 }

@@ -2,7 +2,7 @@ use Rattle.std.proofs.Common.{false, sym, true, ◌∙◌}
 use Rattle.cap_words.specs.Inner.{input_of}
 use Rattle.cap_pack.specs.Input.{unpacker_input}
 use Rattle.cap_cmd.proofs.JobEnds.{job_writes_all}
-use Rattle.cap_cmd.proofs.running.run_job.Goals as goal
+use Rattle.cap_cmd.proofs.running.run_job_with.Goals as goal
 
 pub returns-then-input_is_packed-clause-packed : goal.returns-then-input_is_packed-clause-packed
 returns-then-input_is_packed-clause-packed g c = λ _.

@@ -1,4 +1,4 @@
-use Rattle.cap_cmd.proofs.running.explain_over.Goals as goal
+use Rattle.cap_cmd.proofs.running.Course.explain.Goals as goal
 
 pub returns-then-exclusive : goal.returns-then-exclusive
 returns-then-exclusive g c = rw c.if-exclusive.true (record {

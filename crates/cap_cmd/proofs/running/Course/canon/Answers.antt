@@ -1,6 +1,6 @@
 use Rattle.cap_spec.proofs.ProofNames.{ap, subst, sym, ◌∙◌, append_known, plain_text}
 use Rattle.cap_cmd.specs.Jobs.{GivesOutput}
-use Rattle.cap_cmd.proofs.running.canon_over.Goals as goal
+use Rattle.cap_cmd.proofs.running.Course.canon.Goals as goal
 
 pub returns : goal.returns
 returns g c =
