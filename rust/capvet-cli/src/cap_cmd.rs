@@ -1,9 +1,17 @@
 // crates/cap_cmd/src/lib.rt without its contracts, by tools/erase: that text is proved, this one is only tested.
 //! What the program does: its words are read into a job (`read_job`), and the job is done over an
-//! input, an output and an output for faults (`run_job`).
+//! input, an output and an output for faults (`run_job`). The engines that do a job are given out too.
 
+mod asking;
 mod command_line;
+mod jobs;
 mod running;
 
-pub use command_line::{read_job, Job, JobFault, Task};
-pub use running::run_job;
+pub use crate::cap_run::{
+    dump, parse_path, run_canon, run_check, run_dump, run_get, run_pack, run_segments, run_unpack,
+    run_vet, run_vet_exclusive, Cause, CopyFault, Demands, FilterForm, Outcome, PathFault,
+    RunFault, Settings, Step,
+};
+pub use command_line::read_job;
+pub use jobs::{Job, JobFault, Task, Work};
+pub use running::{run_job, run_job_with};

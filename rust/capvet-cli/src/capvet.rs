@@ -4,7 +4,7 @@
 use crate::rattle::{eprintln, HostRuntime};
 use capvet_core::rattle::Vec;
 
-use crate::cap_cmd::{read_job, run_job, Job, JobFault, Task};
+use crate::cap_cmd::{read_job, run_job_with, Job, JobFault, Task, Work};
 use crate::rattle::env::Env;
 use crate::rattle::fs::{File, Metadata, OpenFile};
 use crate::rattle::io::{BufWriter, ErrorKind, Read, Stdin, Write};
@@ -86,16 +86,15 @@ impl Read for Input {
 
 // Opens the job's file, or takes standard input, and runs the job on it.
 fn open_and_run(rt: &HostRuntime, job: Job) -> u8 {
-    let mut job = job;
     match &job.file {
         None => {
-            job.settings.live = may_wait(&fs::metadata(rt, STANDARD_INPUT));
-            run_on(rt, &job, Device::Standard(rt.stdin()))
+            let live = may_wait(&fs::metadata(rt, STANDARD_INPUT));
+            run_on(rt, &job, live, Device::Standard(rt.stdin()))
         }
         Some(name) => match File::open(rt, name.as_str()) {
             Ok(file) => {
-                job.settings.live = may_wait(&file.metadata());
-                run_on(rt, &job, Device::File(file))
+                let live = may_wait(&file.metadata());
+                run_on(rt, &job, live, Device::File(file))
             }
             Err(error) => cannot_open(rt, &job.task, name.as_str(), &error),
         },
@@ -110,14 +109,15 @@ fn may_wait(metadata: &io::Result<Metadata>) -> bool {
     }
 }
 
-// Runs the job on this input, writes to standard output, and flushes that. It holds the line of a
-// fault until after the flush, so that the line follows the texts if both go to one place.
-fn run_on(rt: &HostRuntime, job: &Job, device: Device) -> u8 {
+// Runs the job on this input, which may have to be waited for if `live` says so. It writes to standard
+// output, and flushes that. It holds the line of a fault until after the flush, so that the line
+// follows the texts if both go to one place.
+fn run_on(rt: &HostRuntime, job: &Job, live: bool, device: Device) -> u8 {
     let mut input = Input {
         device,
         error: None,
     };
-    let status = run_over(rt, job, &mut input);
+    let status = run_over(rt, job, live, &mut input);
     if let Some(error) = &input.error {
         explain(rt, &job.task, error);
     }
@@ -125,7 +125,7 @@ fn run_on(rt: &HostRuntime, job: &Job, device: Device) -> u8 {
 }
 
 // The same, without what the system says of a read that failed.
-fn run_over(rt: &HostRuntime, job: &Job, input: &mut Input) -> u8 {
+fn run_over(rt: &HostRuntime, job: &Job, live: bool, input: &mut Input) -> u8 {
     let input = if let Ok(input) = BufferedIn::new(rt.alloc(), input) {
         input
     } else {
@@ -139,7 +139,7 @@ fn run_over(rt: &HostRuntime, job: &Job, input: &mut Input) -> u8 {
         Ok(err) => FromWrite::new(err),
         Err(_) => return out_of_memory(rt),
     };
-    let (status, out) = run_job(rt.alloc(), job, input, out, &mut err);
+    let (status, out) = run_job_with(rt.alloc(), job, live, input, out, &mut err);
     // An output that failed has its line already.
     let is_reported = out.has_failed() || out.into_inner().flush().is_ok();
     let _ = err.into_inner().flush();
@@ -171,7 +171,11 @@ fn cannot_open(rt: &HostRuntime, task: &Task, name: &str, error: &io::Error) -> 
 // Writes the system's reason as a second line, if the task has one. The others write one line for a
 // fault.
 fn explain(rt: &HostRuntime, task: &Task, error: &io::Error) {
-    if let Task::Explain { .. } | Task::Filter { .. } = task {
+    if let Task::Under {
+        work: Work::Explain { .. } | Work::Filter { .. },
+        ..
+    } = task
+    {
         let _ = eprintln!(rt; "capvet: {error}");
     }
 }

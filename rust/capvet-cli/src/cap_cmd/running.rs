@@ -2,12 +2,16 @@
 //! Doing a job: its engine is run over an input, an output and an output for faults. The exit status
 //! is 0 if all is well, 1 for what the input is, and 3 for a failed device or if memory ran out.
 
-use crate::cap_cmd::command_line::{Job, Task};
+use capvet_core::rattle::Vec;
+
+use crate::cap_cmd::asking::NO_DEMANDS;
+use crate::cap_cmd::jobs::{Job, Task, Work};
 use crate::cap_run::{
     run_canon_with, run_check_with, run_dump_with, run_explain, run_explain_exclusive, run_filter,
-    run_get_with, run_pack, run_segments, run_unpack, run_vet_exclusive_with, run_vet_with,
-    write_copy_fault, write_explained_fault, write_fault, Cause, CopyFault, ExplainedFault,
-    Outcome, Peek, RunFault,
+    run_get_with, run_pack_with, run_segments_with, run_unpack_with, run_vet_exclusive_with,
+    run_vet_with, write_copy_fault, write_explained_fault, write_fault, Cause, CopyFault, Demands,
+    ExplainSettings, ExplainedFault, FilterForm, FlushBeforeWaiting, Outcome, Peek, RunFault,
+    Settings, Step,
 };
 use capvet_core::cap_canon::CanonFault;
 use capvet_core::cap_frame::FrameFault;
@@ -23,9 +27,8 @@ const MOST_WORDS: u64 = 1099511627776;
 /// Whether the input of a job is packed.
 fn input_is_packed(job: &Job) -> bool {
     match &job.task {
-        Task::Segments | Task::Vet { .. } | Task::Explain { .. } => job.settings.packed,
-        Task::Dump | Task::Get { .. } => job.settings.packed,
-        Task::Filter { .. } | Task::Check | Task::Canon => job.settings.packed,
+        Task::Segments | Task::Vet | Task::Dump | Task::Get { .. } => job.packed,
+        Task::Check | Task::Canon | Task::Under { .. } => job.packed,
         Task::Pack => false,
         Task::Unpack => true,
     }
@@ -57,131 +60,231 @@ fn report_transcode<E: ByteOut>(err: &mut E, answer: &Result<u64, CopyFault>) ->
     words_status(answer)
 }
 
-/// Writes the canonical copies of messages to an output, and returns the exit status and the
-/// output.
-fn canon_over<S: Peek, O: ByteOut, E: ByteOut>(
+/// How a job runs: its limits, whether its input is packed, and when its output is flushed.
+#[derive(Clone, Copy)]
+struct Course {
     alloc: Global,
-    job: &Job,
-    source: &mut S,
-    out: O,
-    err: &mut E,
-) -> (u8, O) {
-    let mut sink = PlainSink::new(out);
-    let answer = run_canon_with(alloc, source, &mut sink, &job.settings, job.demands);
-    (report_run(err, &answer), sink.into_inner())
+    packed: bool,
+    settings: Settings,
+    flushing: FlushBeforeWaiting,
 }
 
-/// Packs words to an output, and returns the exit status and the output.
-fn pack_over<S: Peek, O: ByteOut, E: ByteOut>(
-    job: &Job,
-    source: &mut S,
-    out: O,
-    err: &mut E,
-) -> (u8, O) {
-    let mut sink = Packer::new(out);
-    let answer = run_pack(source, &mut sink, MOST_WORDS, job.settings.live);
-    (report_transcode(err, &answer), sink.into_inner())
-}
+impl Course {
+    /// Vets each message, exclusively if that is asked, and returns the exit status.
+    fn vet<S: Peek, O: ByteOut, E: ByteOut>(
+        &self,
+        demands: Demands,
+        exclusive: bool,
+        source: &mut S,
+        out: &mut O,
+        err: &mut E,
+    ) -> u8 {
+        let (alloc, settings, flushing) = (self.alloc, &self.settings, &self.flushing);
+        if exclusive {
+            let answer = run_vet_exclusive_with(alloc, source, out, settings, demands, flushing);
+            report_run(err, &answer)
+        } else {
+            let answer = run_vet_with(alloc, source, out, settings, demands, flushing);
+            report_run(err, &answer)
+        }
+    }
 
-/// Writes words to an output as they are, and returns the exit status and the output.
-fn unpack_over<S: Peek, O: ByteOut, E: ByteOut>(
-    job: &Job,
-    source: &mut S,
-    out: O,
-    err: &mut E,
-) -> (u8, O) {
-    let mut sink = PlainSink::new(out);
-    let answer = run_unpack(source, &mut sink, MOST_WORDS, job.settings.live);
-    (report_transcode(err, &answer), sink.into_inner())
-}
+    /// Vets each message, exclusively if that is asked, explains each refusal, and returns the exit
+    /// status.
+    fn explain<S: Peek, O: ByteOut, E: ByteOut>(
+        &self,
+        demands: Demands,
+        exclusive: bool,
+        source: &mut S,
+        out: &mut O,
+        err: &mut E,
+    ) -> u8 {
+        let (alloc, flushing) = (self.alloc, &self.flushing);
+        let settings = &ExplainSettings {
+            limits: self.settings.limits,
+            size: self.settings.size,
+            messages: self.settings.messages,
+            packed: self.packed,
+        };
+        if exclusive {
+            let answer = run_explain_exclusive(alloc, source, out, settings, demands, flushing);
+            report_explained(err, &answer)
+        } else {
+            let answer = run_explain(alloc, source, out, settings, demands, flushing);
+            report_explained(err, &answer)
+        }
+    }
 
-/// Vets each message, exclusively if that is asked, and returns the exit status.
-fn vet_over<S: Peek, O: ByteOut, E: ByteOut>(
-    alloc: Global,
-    exclusive: bool,
-    job: &Job,
-    source: &mut S,
-    out: &mut O,
-    err: &mut E,
-) -> u8 {
-    let (settings, demands) = (&job.settings, job.demands);
-    if exclusive {
-        let answer = run_vet_exclusive_with(alloc, source, out, settings, demands);
+    /// Writes the frame of each accepted message, and returns the exit status.
+    fn filter<S: Peek, O: ByteOut, E: ByteOut>(
+        &self,
+        demands: Demands,
+        form: FilterForm,
+        source: &mut S,
+        out: &mut O,
+        err: &mut E,
+    ) -> u8 {
+        let (alloc, settings, flushing) = (self.alloc, &self.settings, &self.flushing);
+        let answer = run_filter(alloc, source, out, err, settings, demands, form, flushing);
         report_run(err, &answer)
-    } else {
-        let answer = run_vet_with(alloc, source, out, settings, demands);
+    }
+
+    /// Writes the node at a path of each message, and returns the exit status.
+    fn get<S: Peek, O: ByteOut, E: ByteOut>(
+        &self,
+        demands: Demands,
+        path: &Vec<Step>,
+        source: &mut S,
+        out: &mut O,
+        err: &mut E,
+    ) -> u8 {
+        let (alloc, settings, flushing) = (self.alloc, &self.settings, &self.flushing);
+        let path = path.as_slice();
+        let answer = run_get_with(alloc, source, out, settings, demands, path, flushing);
         report_run(err, &answer)
+    }
+
+    /// Writes the canonical copies of messages to an output, and returns the exit status and the
+    /// output.
+    fn canon<S: Peek, O: ByteOut, E: ByteOut>(
+        &self,
+        demands: Demands,
+        source: &mut S,
+        out: O,
+        err: &mut E,
+    ) -> (u8, O) {
+        let (alloc, settings, flushing) = (self.alloc, &self.settings, &self.flushing);
+        let mut sink = PlainSink::new(out);
+        let answer = run_canon_with(alloc, source, &mut sink, settings, demands, flushing);
+        (report_run(err, &answer), sink.into_inner())
+    }
+
+    /// Does work on each message under demands, and returns the exit status and the output.
+    fn under<S: Peek, O: ByteOut, E: ByteOut>(
+        &self,
+        demands: Demands,
+        work: &Work,
+        source: &mut S,
+        out: O,
+        err: &mut E,
+    ) -> (u8, O) {
+        let (mut out, alloc, settings) = (out, self.alloc, &self.settings);
+        match work {
+            Work::Vet { exclusive } => {
+                let status = self.vet(demands, *exclusive, source, &mut out, err);
+                (status, out)
+            }
+            Work::Explain { exclusive } => {
+                let status = self.explain(demands, *exclusive, source, &mut out, err);
+                (status, out)
+            }
+            Work::Filter { form } => {
+                let status = self.filter(demands, *form, source, &mut out, err);
+                (status, out)
+            }
+            Work::Dump => {
+                let answer =
+                    run_dump_with(alloc, source, &mut out, settings, demands, &self.flushing);
+                (report_run(err, &answer), out)
+            }
+            Work::Get { path } => {
+                let status = self.get(demands, path, source, &mut out, err);
+                (status, out)
+            }
+            Work::Check => {
+                let answer =
+                    run_check_with(alloc, source, &mut out, settings, demands, &self.flushing);
+                (report_run(err, &answer), out)
+            }
+            Work::Canon => self.canon(demands, source, out, err),
+        }
+    }
+
+    /// Packs words to an output, and returns the exit status and the output.
+    fn pack<S: Peek, O: ByteOut, E: ByteOut>(
+        &self,
+        source: &mut S,
+        out: O,
+        err: &mut E,
+    ) -> (u8, O) {
+        let mut sink = Packer::new(out);
+        let answer = run_pack_with(source, &mut sink, MOST_WORDS, &self.flushing);
+        (report_transcode(err, &answer), sink.into_inner())
+    }
+
+    /// Writes words to an output as they are, and returns the exit status and the output.
+    fn unpack<S: Peek, O: ByteOut, E: ByteOut>(
+        &self,
+        source: &mut S,
+        out: O,
+        err: &mut E,
+    ) -> (u8, O) {
+        let mut sink = PlainSink::new(out);
+        let answer = run_unpack_with(source, &mut sink, MOST_WORDS, &self.flushing);
+        (report_transcode(err, &answer), sink.into_inner())
     }
 }
 
-/// Vets each message, exclusively if that is asked, explains each refusal, and returns the exit
-/// status.
-fn explain_over<S: Peek, O: ByteOut, E: ByteOut>(
-    alloc: Global,
-    exclusive: bool,
-    job: &Job,
-    source: &mut S,
-    out: &mut O,
-    err: &mut E,
-) -> u8 {
-    let (settings, demands) = (&job.settings, job.demands);
-    if exclusive {
-        let answer = run_explain_exclusive(alloc, source, out, settings, demands);
-        report_explained(err, &answer)
-    } else {
-        let answer = run_explain(alloc, source, out, settings, demands);
-        report_explained(err, &answer)
-    }
-}
-
-/// Does a job over the words of its input.
+/// Does a job over the words of its input. `live` says whether the input may have to be waited for.
 fn run_over<S: Peek, O: ByteOut, E: ByteOut>(
     alloc: Global,
     job: &Job,
+    live: bool,
     source: S,
     out: O,
     err: &mut E,
 ) -> (u8, O) {
-    let (mut source, mut out, settings, demands) = (source, out, &job.settings, job.demands);
+    let (mut source, mut out) = (source, out);
+    let course = Course {
+        alloc,
+        packed: job.packed,
+        settings: job.settings,
+        flushing: FlushBeforeWaiting { live },
+    };
     match &job.task {
         Task::Segments => {
-            let answer = run_segments(&mut source, &mut out, settings);
+            let (settings, flushing) = (&course.settings, &course.flushing);
+            let answer = run_segments_with(&mut source, &mut out, settings, flushing);
             (report_run(err, &answer), out)
         }
-        Task::Vet { exclusive } => {
-            let status = vet_over(alloc, *exclusive, job, &mut source, &mut out, err);
+        Task::Vet => {
+            let status = course.vet(NO_DEMANDS, false, &mut source, &mut out, err);
             (status, out)
         }
-        Task::Explain { exclusive } => {
-            let status = explain_over(alloc, *exclusive, job, &mut source, &mut out, err);
-            (status, out)
-        }
-        Task::Filter { form } => {
-            let answer = run_filter(alloc, &mut source, &mut out, err, settings, demands, *form);
-            (report_run(err, &answer), out)
-        }
-        Task::Dump => {
-            let answer = run_dump_with(alloc, &mut source, &mut out, settings, demands);
-            (report_run(err, &answer), out)
-        }
+        Task::Dump => course.under(NO_DEMANDS, &Work::Dump, &mut source, out, err),
         Task::Get { path } => {
-            let path = path.as_slice();
-            let answer = run_get_with(alloc, &mut source, &mut out, settings, demands, path);
-            (report_run(err, &answer), out)
+            let status = course.get(NO_DEMANDS, path, &mut source, &mut out, err);
+            (status, out)
         }
-        Task::Check => {
-            let answer = run_check_with(alloc, &mut source, &mut out, settings, demands);
-            (report_run(err, &answer), out)
-        }
-        Task::Canon => canon_over(alloc, job, &mut source, out, err),
-        Task::Pack => pack_over(job, &mut source, out, err),
-        Task::Unpack => unpack_over(job, &mut source, out, err),
+        Task::Check => course.under(NO_DEMANDS, &Work::Check, &mut source, out, err),
+        Task::Canon => course.canon(NO_DEMANDS, &mut source, out, err),
+        Task::Pack => course.pack(&mut source, out, err),
+        Task::Unpack => course.unpack(&mut source, out, err),
+        Task::Under { demands, work } => course.under(*demands, work, &mut source, out, err),
     }
+}
+
+/// Does what [`run_job_with`] does with an input that may have to be waited for.
+///
+/// # Status
+///
+/// That of [`run_job_with`].
+pub fn run_job<I: ByteIn, O: ByteOut, E: ByteOut>(
+    alloc: Global,
+    job: &Job,
+    input: I,
+    out: O,
+    err: &mut E,
+) -> (u8, O) {
+    run_job_with(alloc, job, true, input, out, err)
 }
 
 /// Does a job: reads the input, writes to the output, and writes the line of a fault to `err`. If
 /// the task is [`Task::Filter`], the lines of refused messages go to `err` too, before that of a
 /// fault. It returns the exit status and the output. A line that can't be written changes no status.
+///
+/// `live` says whether the input may have to be waited for, as a pipe. What was written of a message
+/// is then flushed before that. With a regular file nothing is flushed, and the caller does so.
 ///
 /// # Status
 ///
@@ -194,17 +297,18 @@ fn run_over<S: Peek, O: ByteOut, E: ByteOut>(
 ///   group, or has more words than are copied.
 /// - 3: reading or writing failed, the input or the output was closed after an error, or an
 ///   allocation failed.
-pub fn run_job<I: ByteIn, O: ByteOut, E: ByteOut>(
+pub fn run_job_with<I: ByteIn, O: ByteOut, E: ByteOut>(
     alloc: Global,
     job: &Job,
+    live: bool,
     input: I,
     out: O,
     err: &mut E,
 ) -> (u8, O) {
     if input_is_packed(job) {
-        run_over(alloc, job, Unpacker::new(input), out, err)
+        run_over(alloc, job, live, Unpacker::new(input), out, err)
     } else {
-        run_over(alloc, job, PlainWords::new(input), out, err)
+        run_over(alloc, job, live, PlainWords::new(input), out, err)
     }
 }
 

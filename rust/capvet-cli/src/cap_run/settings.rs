@@ -4,7 +4,7 @@
 use capvet_core::cap_frame::SizeLimit;
 use capvet_core::cap_vet::Limits;
 
-/// The limits of a run over a stream, and what is known of its input, for every engine.
+/// The limits of a run over a stream, for every engine.
 #[derive(Clone, Copy, Debug, PartialEq, Eq)]
 pub struct Settings {
     /// The limits of a walk over a message.
@@ -13,15 +13,21 @@ pub struct Settings {
     pub size: SizeLimit,
     /// The most messages of a stream.
     pub messages: u32,
-    /// Whether the input is packed, so that the source unpacks it. Where an engine names a byte of
+}
+
+/// The settings of an engine that explains: the limits of [`Settings`], and what is known of the
+/// input.
+#[derive(Clone, Copy, Debug, PartialEq, Eq)]
+pub struct ExplainSettings {
+    /// The limits of a walk over a message.
+    pub limits: Limits,
+    /// The most words of a message, in all its segments together.
+    pub size: SizeLimit,
+    /// The most messages of a stream.
+    pub messages: u32,
+    /// Whether the input is packed, so that the source unpacks it. Where the engine names a byte of
     /// the input, it says so.
     pub packed: bool,
-    /// Whether the input may have to be waited for, as a pipe. What an engine writes of a message is
-    /// then flushed before the input is asked for more, unless the source shows the whole next
-    /// message, see [`Peek`](crate::Peek). If the input is never waited for, as a regular file, no
-    /// engine flushes: its caller does so after the run. `tests/live.py` shows when an engine flushes,
-    /// and no clause says it.
-    pub live: bool,
 }
 
 /// The form of a run of [`run_filter`](crate::run_filter). With all of them false it lets a message

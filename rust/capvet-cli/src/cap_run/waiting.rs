@@ -1,10 +1,9 @@
 // crates/cap_run/src/waiting.rt without its contracts, by tools/erase: that text is proved, this one is only tested.
 //! When an output is flushed, for all engines, and the sources that show what is buffered of their
-//! input. What can be said of the bytes that have come is said before the program waits for more: an
-//! engine flushes what it wrote, unless its source shows what is read next. `tests/live.py` shows this,
-//! and no clause says it.
+//! input. What can be said of the bytes that have come is said before the program waits for more: with
+//! [`FlushBeforeWaiting`] an engine flushes what it wrote, unless its source shows what is read next.
+//! `tests/live.py` shows when it flushes, and no clause says it.
 
-use crate::cap_run::settings::Settings;
 use capvet_core::cap_frame::{front_of, FrontFault, SizeLimit};
 use capvet_core::cap_pack::Unpacker;
 use capvet_core::cap_words::{
@@ -84,23 +83,51 @@ impl<I: ByteIn> Peek for Unpacker<I> {
 /// before it, is flushed by itself.
 pub(crate) const AHEAD: usize = 4096;
 
-/// Whether the input may have to be waited for before the next message is whole. `ahead` is a place
-/// for words that are looked at.
-pub(crate) fn waits_for_message<S: Peek>(
-    source: &S,
-    settings: &Settings,
-    ahead: &mut [u8],
-) -> bool {
-    settings.live && !source.shows_message(settings.size, ahead)
+/// When an engine flushes what it wrote.
+pub trait Flushing<S: WordSource> {
+    /// Whether to flush before the next message of the source is read. `ahead` is a place for words
+    /// that are looked at.
+    fn before_message(&self, source: &S, size: SizeLimit, ahead: &mut [u8]) -> bool;
+
+    /// Whether to flush before the next word of the source is read.
+    fn before_word(&self, source: &S) -> bool;
 }
 
-/// Whether the input may have to be waited for before there is a next word.
-pub(crate) fn waits_for_word<S: Peek>(source: &S, live: bool) -> bool {
-    live && !source.shows_word()
+/// An engine flushes nothing: its caller does so after the run.
+#[derive(Clone, Copy, Debug)]
+pub struct FlushNever;
+
+impl<S: WordSource> Flushing<S> for FlushNever {
+    fn before_message(&self, _source: &S, _size: SizeLimit, _ahead: &mut [u8]) -> bool {
+        false
+    }
+
+    fn before_word(&self, _source: &S) -> bool {
+        false
+    }
 }
 
-/// Flushes what was written, if the input may have to be waited for. After an error the output has
-/// taken all that was written.
+/// An engine flushes what it wrote before its input may have to be waited for: unless the source
+/// shows the whole next message, or the next word.
+#[derive(Clone, Copy, Debug)]
+pub struct FlushBeforeWaiting {
+    /// Whether the input may have to be waited for, as a pipe. If it is never waited for, as a
+    /// regular file, nothing is flushed.
+    pub live: bool,
+}
+
+impl<S: Peek> Flushing<S> for FlushBeforeWaiting {
+    fn before_message(&self, source: &S, size: SizeLimit, ahead: &mut [u8]) -> bool {
+        self.live && !source.shows_message(size, ahead)
+    }
+
+    fn before_word(&self, source: &S) -> bool {
+        self.live && !source.shows_word()
+    }
+}
+
+/// Flushes what was written, if that is asked. After an error the output has taken all that was
+/// written.
 pub(crate) fn flush_output<O: ByteOut>(out: &mut O, waits: bool) -> Result<(), OutFault> {
     if waits {
         return out.flush();
@@ -108,7 +135,7 @@ pub(crate) fn flush_output<O: ByteOut>(out: &mut O, waits: bool) -> Result<(), O
     Ok(())
 }
 
-/// Flushes what was put, if the input may have to be waited for.
+/// Flushes what was put, if that is asked.
 pub(crate) fn flush_sink<K: WordSink>(sink: &mut K, waits: bool) -> Result<(), SinkFault> {
     if waits {
         return sink.flush();

@@ -6,7 +6,7 @@ use capvet_core::rattle::Vec;
 use crate::cap_run::engines::stream::end_stream;
 use crate::cap_run::fault::output_fault;
 use crate::cap_run::settings::{Outcome, Settings};
-use crate::cap_run::waiting::{flush_sink, waits_for_message, Peek, AHEAD};
+use crate::cap_run::waiting::{flush_sink, FlushNever, Flushing, AHEAD};
 use crate::cap_text::{Cause, RunFault};
 use capvet_core::cap_canon::canonical_over;
 use capvet_core::cap_frame::{read_into, ByteMessage, Segments};
@@ -77,13 +77,14 @@ struct CanonBuffers {
 
 /// Reads the next message into the buffer of the last one, and puts its copy, for which there is a
 /// buffer too. `false` if the stream ends before it.
-fn put_next<S: Peek, K: WordSink>(
+fn put_next<S: WordSource, K: WordSink, F: Flushing<S>>(
     alloc: Global,
     buffers: &mut CanonBuffers,
     source: &mut S,
     sink: &mut K,
     settings: &Settings,
     demands: Demands,
+    flushing: &F,
 ) -> Result<bool, Cause> {
     let (limits, size) = (settings.limits, settings.size);
     match read_into(alloc, source, size, &mut buffers.message) {
@@ -92,7 +93,7 @@ fn put_next<S: Peek, K: WordSink>(
             if let Err(cause) = put_copy(alloc, sink, &view, &mut buffers.copy, limits, demands) {
                 return Err(cause);
             }
-            let waits = waits_for_message(source, settings, &mut buffers.ahead);
+            let waits = flushing.before_message(source, size, &mut buffers.ahead);
             match flush_sink(sink, waits) {
                 Ok(()) => Ok(true),
                 Err(fault) => Err(Cause::Output(output_fault(fault))),
@@ -105,12 +106,13 @@ fn put_next<S: Peek, K: WordSink>(
 
 /// Puts the copies of the messages of a stream. Returns how many were put, and why there were no
 /// more. The sink isn't finished yet.
-fn put_copies<S: Peek, K: WordSink>(
+fn put_copies<S: WordSource, K: WordSink, F: Flushing<S>>(
     alloc: Global,
     source: &mut S,
     sink: &mut K,
     settings: &Settings,
     demands: Demands,
+    flushing: &F,
 ) -> (u32, Result<(), Cause>) {
     let mut buffers = CanonBuffers {
         message: ByteMessage::blank(alloc),
@@ -118,7 +120,15 @@ fn put_copies<S: Peek, K: WordSink>(
         ahead: [0; AHEAD],
     };
     for number in 0..settings.messages {
-        match put_next(alloc, &mut buffers, source, sink, settings, demands) {
+        match put_next(
+            alloc,
+            &mut buffers,
+            source,
+            sink,
+            settings,
+            demands,
+            flushing,
+        ) {
             Ok(true) => {}
             Ok(false) => return (number, Ok(())),
             Err(cause) => return (number, Err(cause)),
@@ -136,14 +146,15 @@ fn without_fault(end: &Result<(), Cause>) -> bool {
 }
 
 /// Puts the copies of the messages of a stream, and finishes the sink unless the output failed.
-fn make_copies<S: Peek, K: WordSink>(
+fn make_copies<S: WordSource, K: WordSink, F: Flushing<S>>(
     alloc: Global,
     source: &mut S,
     sink: &mut K,
     settings: &Settings,
     demands: Demands,
+    flushing: &F,
 ) -> (u32, Result<(), Cause>) {
-    let (messages, end) = put_copies(alloc, source, sink, settings, demands);
+    let (messages, end) = put_copies(alloc, source, sink, settings, demands, flushing);
     if without_fault(&end) {
         if let Err(fault) = sink.finish() {
             return (messages, Err(Cause::Output(output_fault(fault))));
@@ -152,25 +163,32 @@ fn make_copies<S: Peek, K: WordSink>(
     (messages, end)
 }
 
-/// Does what [`run_canon_with`] does, without demands.
+/// Does what [`run_canon_with`] does, without demands and without a flush.
 ///
 /// # Errors
 ///
 /// Those of [`run_canon_with`], without [`Cause::NotStrict`].
-pub fn run_canon<S: Peek, K: WordSink>(
+pub fn run_canon<S: WordSource, K: WordSink>(
     alloc: Global,
     source: &mut S,
     sink: &mut K,
     settings: &Settings,
 ) -> Result<Outcome, RunFault> {
-    run_canon_with(alloc, source, sink, settings, Demands::default())
+    run_canon_with(
+        alloc,
+        source,
+        sink,
+        settings,
+        Demands::default(),
+        &FlushNever,
+    )
 }
 
 /// Reads the messages of a stream to its end, and puts the canonical copy of each to a sink. Each
 /// copy is put as a framed message of one segment (encoding: Canonicalization, Serialization Over a
 /// Stream). The run ends at a message that isn't accepted, or doesn't meet the demands (profile).
 ///
-/// The copy of a message is put before the next message is read, and flushed as `settings.live` says.
+/// The copy of a message is put before the next message is read, and flushed as `flushing` says.
 /// The sink is finished at the end, and before an error is returned, unless the output failed. It is
 /// closed after the call in any case.
 ///
@@ -195,14 +213,15 @@ pub fn run_canon<S: Peek, K: WordSink>(
 /// - [`Cause::Output`]: the output failed as a copy was put or flushed, or as the sink was
 ///   finished. It took a prefix of the text of the copies. If finishing the sink fails after
 ///   another error, `Output` is returned.
-pub fn run_canon_with<S: Peek, K: WordSink>(
+pub fn run_canon_with<S: WordSource, K: WordSink, F: Flushing<S>>(
     alloc: Global,
     source: &mut S,
     sink: &mut K,
     settings: &Settings,
     demands: Demands,
+    flushing: &F,
 ) -> Result<Outcome, RunFault> {
-    let (messages, end) = make_copies(alloc, source, sink, settings, demands);
+    let (messages, end) = make_copies(alloc, source, sink, settings, demands, flushing);
     match end {
         Ok(()) => Ok(Outcome {
             messages,

@@ -4,12 +4,12 @@
 use crate::cap_run::engines::stream::Counted;
 use crate::cap_run::engines::whole::{after_text, judge_all, Judge};
 use crate::cap_run::settings::{Outcome, Settings};
-use crate::cap_run::waiting::Peek;
+use crate::cap_run::waiting::{FlushNever, Flushing};
 use crate::cap_text::{write_check, write_refused, Cause, Page, RunFault};
 use capvet_core::cap_canon::check_with;
 use capvet_core::cap_frame::Segments;
 use capvet_core::cap_vet::{Demands, Limits};
-use capvet_core::cap_words::ByteOut;
+use capvet_core::cap_words::{ByteOut, WordSource};
 use capvet_core::rattle::alloc::Global;
 
 /// Vets a message under demands, and writes whether it is canonical if it meets them. Otherwise it
@@ -50,18 +50,25 @@ fn count_of(canonical: bool) -> Counted {
     }
 }
 
-/// Does what [`run_check_with`] does, without demands.
+/// Does what [`run_check_with`] does, without demands and without a flush.
 ///
 /// # Errors
 ///
 /// Those of [`run_check_with`].
-pub fn run_check<S: Peek, O: ByteOut>(
+pub fn run_check<S: WordSource, O: ByteOut>(
     alloc: Global,
     source: &mut S,
     out: &mut O,
     settings: &Settings,
 ) -> Result<Outcome, RunFault> {
-    run_check_with(alloc, source, out, settings, Demands::default())
+    run_check_with(
+        alloc,
+        source,
+        out,
+        settings,
+        Demands::default(),
+        &FlushNever,
+    )
 }
 
 /// Reads the messages of a stream to its end, and writes for each whether it is canonical. A
@@ -71,7 +78,7 @@ pub fn run_check<S: Peek, O: ByteOut>(
 /// For a message that isn't accepted within `settings.limits`, or doesn't meet the demands, it
 /// writes the line of [`run_vet_with`](crate::run_vet_with). A message that is refused or isn't
 /// canonical is counted, and doesn't end the run. The line of a message is written before the next
-/// message is read, and flushed as `settings.live` says.
+/// message is read, and flushed as `flushing` says.
 ///
 /// Allocates only to hold a message that is larger than all before it: eight bytes for each word.
 ///
@@ -86,16 +93,17 @@ pub fn run_check<S: Peek, O: ByteOut>(
 ///   [`FrameFault`](cap_frame::FrameFault).
 /// - [`Cause::Output`](crate::Cause::Output): the output failed as the line was written or flushed.
 ///   It took a prefix of the line, or all of it.
-pub fn run_check_with<S: Peek, O: ByteOut>(
+pub fn run_check_with<S: WordSource, O: ByteOut, F: Flushing<S>>(
     alloc: Global,
     source: &mut S,
     out: &mut O,
     settings: &Settings,
     demands: Demands,
+    flushing: &F,
 ) -> Result<Outcome, RunFault> {
     let checking = Checking {
         limits: settings.limits,
         demands,
     };
-    judge_all(alloc, source, out, settings, checking)
+    judge_all(alloc, source, out, settings, checking, flushing)
 }

@@ -4,11 +4,11 @@
 use crate::cap_run::engines::stream::Counted;
 use crate::cap_run::engines::whole::{after_text, vet_all, Printer};
 use crate::cap_run::settings::{Outcome, Settings};
-use crate::cap_run::waiting::Peek;
+use crate::cap_run::waiting::{FlushNever, Flushing};
 use crate::cap_text::{write_tree, Cause, Page, RunFault};
 use capvet_core::cap_frame::Segments;
 use capvet_core::cap_vet::{Demands, Vetted};
-use capvet_core::cap_words::ByteOut;
+use capvet_core::cap_words::{ByteOut, WordSource};
 use capvet_core::rattle::alloc::Global;
 
 /// Writes the tree of a message.
@@ -27,18 +27,25 @@ impl Printer for DumpPrinter {
     }
 }
 
-/// Does what [`run_dump_with`] does, without demands.
+/// Does what [`run_dump_with`] does, without demands and without a flush.
 ///
 /// # Errors
 ///
 /// Those of [`run_dump_with`].
-pub fn run_dump<S: Peek, O: ByteOut>(
+pub fn run_dump<S: WordSource, O: ByteOut>(
     alloc: Global,
     source: &mut S,
     out: &mut O,
     settings: &Settings,
 ) -> Result<Outcome, RunFault> {
-    run_dump_with(alloc, source, out, settings, Demands::default())
+    run_dump_with(
+        alloc,
+        source,
+        out,
+        settings,
+        Demands::default(),
+        &FlushNever,
+    )
 }
 
 /// Reads the messages of a stream to its end, and writes for each the line of
@@ -46,7 +53,7 @@ pub fn run_dump<S: Peek, O: ByteOut>(
 /// message's whole tree, as [`dump`](crate::dump) does.
 ///
 /// A refused message is counted, and doesn't end the run. The text of a message is written before
-/// the next message is read, and flushed as `settings.live` says.
+/// the next message is read, and flushed as `flushing` says.
 ///
 /// Allocates only to hold a message that is larger than all before it: eight bytes for each word.
 ///
@@ -61,12 +68,13 @@ pub fn run_dump<S: Peek, O: ByteOut>(
 ///   [`FrameFault`](cap_frame::FrameFault).
 /// - [`Cause::Output`](crate::Cause::Output): the output failed as the text was written or flushed.
 ///   It took a prefix of the text, or all of it.
-pub fn run_dump_with<S: Peek, O: ByteOut>(
+pub fn run_dump_with<S: WordSource, O: ByteOut, F: Flushing<S>>(
     alloc: Global,
     source: &mut S,
     out: &mut O,
     settings: &Settings,
     demands: Demands,
+    flushing: &F,
 ) -> Result<Outcome, RunFault> {
-    vet_all(alloc, source, out, settings, demands, DumpPrinter)
+    vet_all(alloc, source, out, settings, demands, DumpPrinter, flushing)
 }

@@ -4,11 +4,11 @@
 use crate::cap_run::engines::stream::Counted;
 use crate::cap_run::engines::whole::{after_text, judge_all, Judge};
 use crate::cap_run::settings::{Outcome, Settings};
-use crate::cap_run::waiting::Peek;
+use crate::cap_run::waiting::{FlushNever, Flushing};
 use crate::cap_text::{write_accepted, write_overlap, write_refused, Cause, Page, RunFault};
 use capvet_core::cap_frame::Segments;
 use capvet_core::cap_vet::{vet_exclusive, Demands, ExclusiveRefusal, Limits};
-use capvet_core::cap_words::ByteOut;
+use capvet_core::cap_words::{ByteOut, WordSource};
 use capvet_core::rattle::alloc::Global;
 
 /// Vets a message under demands, and writes the numbers of its tree if it meets them and uses no word
@@ -51,19 +51,26 @@ impl Judge for ExclusiveVetting {
     }
 }
 
-/// Does what [`run_vet_exclusive_with`] does, without demands: a message is accepted if its root
-/// denotes a finite tree within `settings.limits` and it uses no word twice.
+/// Does what [`run_vet_exclusive_with`] does, without demands and without a flush: a message is
+/// accepted if its root denotes a finite tree within `settings.limits` and it uses no word twice.
 ///
 /// # Errors
 ///
 /// Those of [`run_vet_exclusive_with`].
-pub fn run_vet_exclusive<S: Peek, O: ByteOut>(
+pub fn run_vet_exclusive<S: WordSource, O: ByteOut>(
     alloc: Global,
     source: &mut S,
     out: &mut O,
     settings: &Settings,
 ) -> Result<Outcome, RunFault> {
-    run_vet_exclusive_with(alloc, source, out, settings, Demands::default())
+    run_vet_exclusive_with(
+        alloc,
+        source,
+        out,
+        settings,
+        Demands::default(),
+        &FlushNever,
+    )
 }
 
 /// Reads the messages of a stream to its end, and vets each exclusively under demands (profile). A
@@ -78,7 +85,7 @@ pub fn run_vet_exclusive<S: Peek, O: ByteOut>(
 ///
 /// A message that is refused, or in which a pointer overlaps, is counted as refused. It doesn't end
 /// the run. The line of a message is written before the next message is read, and flushed as
-/// `settings.live` says.
+/// `flushing` says.
 ///
 /// Allocates to hold a message only if it is larger than all before it: eight bytes for each word.
 /// For each message it allocates the marks: one bit for each word, and at most 64 bits more.
@@ -95,17 +102,18 @@ pub fn run_vet_exclusive<S: Peek, O: ByteOut>(
 ///   the line, or all of it.
 /// - [`Cause::Memory`]: the message meets the demands within the limits, and the allocation of the
 ///   marks failed. Nothing was written for it.
-pub fn run_vet_exclusive_with<S: Peek, O: ByteOut>(
+pub fn run_vet_exclusive_with<S: WordSource, O: ByteOut, F: Flushing<S>>(
     alloc: Global,
     source: &mut S,
     out: &mut O,
     settings: &Settings,
     demands: Demands,
+    flushing: &F,
 ) -> Result<Outcome, RunFault> {
     let vetting = ExclusiveVetting {
         alloc,
         limits: settings.limits,
         demands,
     };
-    judge_all(alloc, source, out, settings, vetting)
+    judge_all(alloc, source, out, settings, vetting, flushing)
 }

@@ -6,8 +6,8 @@ use crate::cap_run::engines::passing::write_more;
 use crate::cap_run::engines::stream::Counted;
 use crate::cap_run::engines::vet::VetPrinter;
 use crate::cap_run::engines::whole::{after_text, Printer};
-use crate::cap_run::settings::{Outcome, Settings};
-use crate::cap_run::waiting::Peek;
+use crate::cap_run::settings::{ExplainSettings, Outcome};
+use crate::cap_run::waiting::Flushing;
 use crate::cap_text::{
     write_accepted, write_filtered, write_overlap, write_refused, Cause, ExplainedFault, Page,
 };
@@ -18,7 +18,7 @@ use capvet_core::cap_frame::Segments;
 use capvet_core::cap_spec::StrictRefusal;
 use capvet_core::cap_trace::{EarlierPointer, NamedPath};
 use capvet_core::cap_vet::{limits_under, vet_with, Demands, ExclusiveRefusal, Limits, Vetted};
-use capvet_core::cap_words::{ByteOut, OutFault};
+use capvet_core::cap_words::{ByteOut, OutFault, WordSource};
 use capvet_core::rattle::alloc::Global;
 
 /// The greatest limits.
@@ -336,12 +336,13 @@ impl<T: PlacedPrinter> PlacedJudge for Explaining<T> {
 ///
 /// Those of [`run_vet_with`](crate::run_vet_with). A message's text is its line and the lines that
 /// explain it. The error has what is known of a message that can't be read.
-pub fn run_explain<S: Peek, O: ByteOut>(
+pub fn run_explain<S: WordSource, O: ByteOut, F: Flushing<S>>(
     alloc: Global,
     source: &mut S,
     out: &mut O,
-    settings: &Settings,
+    settings: &ExplainSettings,
     demands: Demands,
+    flushing: &F,
 ) -> Result<Outcome, ExplainedFault> {
     let explaining = Explaining {
         limits: settings.limits,
@@ -349,7 +350,7 @@ pub fn run_explain<S: Peek, O: ByteOut>(
         packed: settings.packed,
         printer: AcceptedPrinter,
     };
-    explain_all(alloc, source, out, settings, explaining)
+    explain_all(alloc, source, out, settings, explaining, flushing)
 }
 
 /// Does what [`run_vet_exclusive_with`](crate::run_vet_exclusive_with) does, and explains each
@@ -359,12 +360,13 @@ pub fn run_explain<S: Peek, O: ByteOut>(
 ///
 /// Those of [`run_vet_exclusive_with`](crate::run_vet_exclusive_with). A message's text is its line
 /// and the lines that explain it. The error has what is known of a message that can't be read.
-pub fn run_explain_exclusive<S: Peek, O: ByteOut>(
+pub fn run_explain_exclusive<S: WordSource, O: ByteOut, F: Flushing<S>>(
     alloc: Global,
     source: &mut S,
     out: &mut O,
-    settings: &Settings,
+    settings: &ExplainSettings,
     demands: Demands,
+    flushing: &F,
 ) -> Result<Outcome, ExplainedFault> {
     let explaining = Explaining {
         limits: settings.limits,
@@ -375,5 +377,5 @@ pub fn run_explain_exclusive<S: Peek, O: ByteOut>(
             packed: settings.packed,
         },
     };
-    explain_all(alloc, source, out, settings, explaining)
+    explain_all(alloc, source, out, settings, explaining, flushing)
 }

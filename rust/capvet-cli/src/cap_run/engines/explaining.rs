@@ -2,8 +2,8 @@
 //! Reading the messages of a stream to explain each refusal, and why the stream breaks off.
 
 use crate::cap_run::engines::stream::{count, Counted};
-use crate::cap_run::settings::{Outcome, Settings};
-use crate::cap_run::waiting::{flush_output, waits_for_message, Peek, AHEAD};
+use crate::cap_run::settings::{ExplainSettings, Outcome};
+use crate::cap_run::waiting::{flush_output, Flushing, AHEAD};
 use crate::cap_text::{Cause, ExplainedFault, Page, RunFault, StreamBreak};
 use capvet_core::cap_explain::frame_words;
 use capvet_core::cap_frame::{
@@ -73,7 +73,7 @@ fn is_cut_after<S: WordSource>(source: &mut S, fault: FrameFault) -> bool {
 
 /// What is known of a message that can't be read.
 fn break_at(
-    settings: &Settings,
+    settings: &ExplainSettings,
     start: u64,
     table: Option<TableSums>,
     is_cut: bool,
@@ -91,7 +91,7 @@ fn break_at(
 fn read_next<S: WordSource>(
     alloc: Global,
     source: &mut S,
-    settings: &Settings,
+    settings: &ExplainSettings,
     buffers: &mut ExplainBuffers,
 ) -> Result<bool, FrameFault> {
     let start = source.position();
@@ -116,7 +116,7 @@ fn read_next<S: WordSource>(
 /// read, `at` is what is known of it.
 fn end_explained<S: WordSource>(
     source: &mut S,
-    settings: &Settings,
+    settings: &ExplainSettings,
     at: &mut StreamBreak,
 ) -> Result<(), Cause> {
     let start = source.position();
@@ -146,7 +146,7 @@ impl<J: PlacedJudge> Explainer<J> {
         buffers: &mut ExplainBuffers,
         source: &mut S,
         out: &mut O,
-        settings: &Settings,
+        settings: &ExplainSettings,
         before: u64,
         number: u32,
     ) -> Result<Option<Counted>, Cause> {
@@ -168,11 +168,12 @@ impl<J: PlacedJudge> Explainer<J> {
     }
 
     /// Reads the messages of a stream to its end, and writes the text of each.
-    fn print_each<S: Peek, O: ByteOut>(
+    fn print_each<S: WordSource, O: ByteOut, F: Flushing<S>>(
         &self,
         source: &mut S,
         out: &mut O,
-        settings: &Settings,
+        settings: &ExplainSettings,
+        flushing: &F,
     ) -> Result<Outcome, ExplainedFault> {
         let mut outcome = Outcome {
             messages: 0,
@@ -185,7 +186,7 @@ impl<J: PlacedJudge> Explainer<J> {
         for number in 0..settings.messages {
             match self.print_next(&mut buffers, source, out, settings, before, number) {
                 Ok(Some(counted)) => {
-                    let waits = waits_for_message(source, settings, &mut ahead);
+                    let waits = flushing.before_message(source, settings.size, &mut ahead);
                     match flush_output(out, waits) {
                         Ok(()) => {
                             outcome = count(outcome, counted);
@@ -217,12 +218,13 @@ fn stopped_at(message: u32, cause: Cause, at: StreamBreak) -> ExplainedFault {
 
 /// Reads each message of a stream whole, and writes the text that comes of it. The error says what
 /// is known of a message that can't be read.
-pub(crate) fn explain_all<S: Peek, O: ByteOut, J: PlacedJudge>(
+pub(crate) fn explain_all<S: WordSource, O: ByteOut, J: PlacedJudge, F: Flushing<S>>(
     alloc: Global,
     source: &mut S,
     out: &mut O,
-    settings: &Settings,
+    settings: &ExplainSettings,
     judge: J,
+    flushing: &F,
 ) -> Result<Outcome, ExplainedFault> {
-    Explainer { alloc, judge }.print_each(source, out, settings)
+    Explainer { alloc, judge }.print_each(source, out, settings, flushing)
 }

@@ -4,11 +4,11 @@
 use crate::cap_run::engines::sifting::{Passage, Sieve};
 use crate::cap_run::engines::stream::{count, end_stream, Counted};
 use crate::cap_run::settings::{FilterForm, Outcome, Settings};
-use crate::cap_run::waiting::{waits_for_message, Peek, AHEAD};
+use crate::cap_run::waiting::{Flushing, AHEAD};
 use crate::cap_text::{Cause, RunFault};
 use capvet_core::cap_frame::{read_into, ByteMessage};
 use capvet_core::cap_vet::Demands;
-use capvet_core::cap_words::ByteOut;
+use capvet_core::cap_words::{ByteOut, WordSource};
 use capvet_core::rattle::alloc::Global;
 
 /// The message that was read last, and what else is kept from one message to the next.
@@ -20,19 +20,20 @@ struct FilterBuffers {
 }
 
 /// Reads the next message and sifts it. `None` if the stream ends before it. The frame of an
-/// accepted message is flushed if the input may have to be waited for before the next one is whole.
-fn sift_next<S: Peek, O: ByteOut, E: ByteOut>(
+/// accepted message is flushed as `flushing` says.
+fn sift_next<S: WordSource, O: ByteOut, E: ByteOut, F: Flushing<S>>(
     sieve: &Sieve,
     buffers: &mut FilterBuffers,
     source: &mut S,
     out: &mut O,
     log: &mut E,
     settings: &Settings,
+    flushing: &F,
     number: u32,
 ) -> Result<Option<Counted>, Cause> {
     match read_into(sieve.alloc, source, settings.size, &mut buffers.message) {
         Ok(true) => {
-            let wait = !waits_for_message(source, settings, &mut buffers.ahead);
+            let wait = !flushing.before_message(source, settings.size, &mut buffers.ahead);
             let message = buffers.message.view();
             match sieve.sift(&mut buffers.passage, out, log, wait, number, &message) {
                 Ok(counted) => Ok(Some(counted)),
@@ -53,12 +54,13 @@ fn ends_after(counted: Counted, stop: bool) -> bool {
 }
 
 /// Sifts the messages of a stream to its end, or to the first refused one.
-fn sift_each<S: Peek, O: ByteOut, E: ByteOut>(
+fn sift_each<S: WordSource, O: ByteOut, E: ByteOut, F: Flushing<S>>(
     sieve: &Sieve,
     source: &mut S,
     out: &mut O,
     log: &mut E,
     settings: &Settings,
+    flushing: &F,
 ) -> Result<Outcome, RunFault> {
     let mut outcome = Outcome {
         messages: 0,
@@ -71,7 +73,16 @@ fn sift_each<S: Peek, O: ByteOut, E: ByteOut>(
         passage: Passage::new(),
     };
     for number in 0..settings.messages {
-        match sift_next(sieve, &mut buffers, source, out, log, settings, number) {
+        match sift_next(
+            sieve,
+            &mut buffers,
+            source,
+            out,
+            log,
+            settings,
+            flushing,
+            number,
+        ) {
             Ok(Some(counted)) => {
                 outcome = count(outcome, counted);
                 if ends_after(counted, sieve.form.stop) {
@@ -110,7 +121,7 @@ fn sift_each<S: Peek, O: ByteOut, E: ByteOut>(
 /// vetted. The frame of a message, or its line, is written before the next message is read. If `log`
 /// fails, it isn't called again, and the run goes on.
 ///
-/// Frames are flushed as `settings.live` says. The frames that wait are flushed before a line is
+/// Frames are flushed as `flushing` says. The frames that wait are flushed before a line is
 /// written. They still wait if the run ends with [`Cause::TooManyMessages`], or as an allocation
 /// fails.
 ///
@@ -132,7 +143,7 @@ fn sift_each<S: Peek, O: ByteOut, E: ByteOut>(
 ///   accepted, and a flush of the frames before it failed. Its line wasn't written.
 /// - [`Cause::Memory`]: with `form.exclusive` alone. The message meets the demands, and the
 ///   allocation of the marks failed. Nothing was written for it.
-pub fn run_filter<S: Peek, O: ByteOut, E: ByteOut>(
+pub fn run_filter<S: WordSource, O: ByteOut, E: ByteOut, F: Flushing<S>>(
     alloc: Global,
     source: &mut S,
     out: &mut O,
@@ -140,6 +151,7 @@ pub fn run_filter<S: Peek, O: ByteOut, E: ByteOut>(
     settings: &Settings,
     demands: Demands,
     form: FilterForm,
+    flushing: &F,
 ) -> Result<Outcome, RunFault> {
     let sieve = Sieve {
         alloc,
@@ -147,5 +159,5 @@ pub fn run_filter<S: Peek, O: ByteOut, E: ByteOut>(
         demands,
         form,
     };
-    sift_each(&sieve, source, out, log, settings)
+    sift_each(&sieve, source, out, log, settings, flushing)
 }

@@ -4,12 +4,12 @@
 use crate::cap_run::engines::stream::Counted;
 use crate::cap_run::engines::whole::{after_text, vet_all, Printer};
 use crate::cap_run::settings::{Outcome, Settings};
-use crate::cap_run::waiting::Peek;
+use crate::cap_run::waiting::{FlushNever, Flushing};
 use crate::cap_text::{write_node, Cause, Page, RunFault};
 use capvet_core::cap_frame::Segments;
 use capvet_core::cap_spec::Step;
 use capvet_core::cap_vet::{Demands, Vetted};
-use capvet_core::cap_words::ByteOut;
+use capvet_core::cap_words::{ByteOut, WordSource};
 use capvet_core::rattle::alloc::Global;
 
 /// Writes the node at this path of a message's tree.
@@ -31,19 +31,27 @@ impl<'p> Printer for GetPrinter<'p> {
     }
 }
 
-/// Does what [`run_get_with`] does, without demands.
+/// Does what [`run_get_with`] does, without demands and without a flush.
 ///
 /// # Errors
 ///
 /// Those of [`run_get_with`].
-pub fn run_get<S: Peek, O: ByteOut>(
+pub fn run_get<S: WordSource, O: ByteOut>(
     alloc: Global,
     source: &mut S,
     out: &mut O,
     settings: &Settings,
     path: &[Step],
 ) -> Result<Outcome, RunFault> {
-    run_get_with(alloc, source, out, settings, Demands::default(), path)
+    run_get_with(
+        alloc,
+        source,
+        out,
+        settings,
+        Demands::default(),
+        path,
+        &FlushNever,
+    )
 }
 
 /// Reads the messages of a stream to its end, and writes for each the node of its tree at the path,
@@ -53,7 +61,7 @@ pub fn run_get<S: Peek, O: ByteOut>(
 ///
 /// A message without such a node isn't refused. A refused message is counted, and doesn't end the
 /// run. The text of a message is written before the next message is read, and flushed as
-/// `settings.live` says.
+/// `flushing` says.
 ///
 /// Allocates only to hold a message that is larger than all before it: eight bytes for each word.
 ///
@@ -68,13 +76,22 @@ pub fn run_get<S: Peek, O: ByteOut>(
 ///   [`FrameFault`](cap_frame::FrameFault).
 /// - [`Cause::Output`](crate::Cause::Output): the output failed as the text was written or flushed.
 ///   It took a prefix of the text, or all of it.
-pub fn run_get_with<S: Peek, O: ByteOut>(
+pub fn run_get_with<S: WordSource, O: ByteOut, F: Flushing<S>>(
     alloc: Global,
     source: &mut S,
     out: &mut O,
     settings: &Settings,
     demands: Demands,
     path: &[Step],
+    flushing: &F,
 ) -> Result<Outcome, RunFault> {
-    vet_all(alloc, source, out, settings, demands, GetPrinter { path })
+    vet_all(
+        alloc,
+        source,
+        out,
+        settings,
+        demands,
+        GetPrinter { path },
+        flushing,
+    )
 }

@@ -3,7 +3,7 @@
 
 use crate::cap_run::engines::stream::{print_all, Counted, Engine};
 use crate::cap_run::settings::{Outcome, Settings};
-use crate::cap_run::waiting::Peek;
+use crate::cap_run::waiting::{FlushNever, Flushing};
 use crate::cap_text::{write_segments, Cause, Page, RunFault};
 use capvet_core::cap_frame::{read_outline, Outline, SizeLimit};
 use capvet_core::cap_words::{ByteOut, WordSource};
@@ -47,10 +47,23 @@ impl Engine for SegmentsEngine {
     }
 }
 
+/// Does what [`run_segments_with`] does, without a flush.
+///
+/// # Errors
+///
+/// Those of [`run_segments_with`].
+pub fn run_segments<S: WordSource, O: ByteOut>(
+    source: &mut S,
+    out: &mut O,
+    settings: &Settings,
+) -> Result<Outcome, RunFault> {
+    run_segments_with(source, out, settings, &FlushNever)
+}
+
 /// Reads the messages of a stream to its end, and writes for each its segments, their sizes in
 /// words and the root word (encoding: Serialization Over a Stream). The messages aren't vetted.
 ///
-/// The text of a message is written before the next message is read, and flushed as `settings.live`
+/// The text of a message is written before the next message is read, and flushed as `flushing`
 /// says. The words of a message aren't held, and nothing is allocated.
 ///
 /// # Errors
@@ -65,10 +78,11 @@ impl Engine for SegmentsEngine {
 ///   [`FrameFault::Memory`](cap_frame::FrameFault::Memory).
 /// - [`Cause::Output`](crate::Cause::Output): the output failed as the text was written or flushed.
 ///   It took a prefix of the text, or all of it.
-pub fn run_segments<S: Peek, O: ByteOut>(
+pub fn run_segments_with<S: WordSource, O: ByteOut, F: Flushing<S>>(
     source: &mut S,
     out: &mut O,
     settings: &Settings,
+    flushing: &F,
 ) -> Result<Outcome, RunFault> {
-    print_all(source, out, settings, &SegmentsEngine)
+    print_all(source, out, settings, &SegmentsEngine, flushing)
 }

@@ -2,7 +2,7 @@
 //! Reading the messages of a stream, and writing a text for each.
 
 use crate::cap_run::settings::{Outcome, Settings};
-use crate::cap_run::waiting::{flush_output, waits_for_message, Peek, AHEAD};
+use crate::cap_run::waiting::{flush_output, Flushing, AHEAD};
 use crate::cap_text::{Cause, RunFault};
 use capvet_core::cap_frame::{read_outline, FrameFault, Outline, SizeLimit};
 use capvet_core::cap_words::{ByteOut, OutFault, WordSource};
@@ -75,11 +75,12 @@ pub(crate) fn count(outcome: Outcome, counted: Counted) -> Outcome {
 }
 
 // Reads the messages of a stream to its end, and writes the text of each.
-fn print_each<S: Peek, O: ByteOut, E: Engine>(
+fn print_each<S: WordSource, O: ByteOut, E: Engine, F: Flushing<S>>(
     source: &mut S,
     out: &mut O,
     settings: &Settings,
     engine: &E,
+    flushing: &F,
 ) -> Result<Outcome, RunFault> {
     let mut outcome = Outcome {
         messages: 0,
@@ -91,7 +92,7 @@ fn print_each<S: Peek, O: ByteOut, E: Engine>(
     for number in 0..settings.messages {
         match engine.print_next(&mut buffers, source, out, settings.size, number) {
             Ok(Some(counted)) => {
-                let waits = waits_for_message(source, settings, &mut ahead);
+                let waits = flushing.before_message(source, settings.size, &mut ahead);
                 match flush_output(out, waits) {
                     Ok(()) => outcome = count(outcome, counted),
                     Err(fault) => return Err(output_fault_at(number, fault)),
@@ -116,12 +117,13 @@ fn print_each<S: Peek, O: ByteOut, E: Engine>(
 }
 
 /// Reads the messages of a stream to its end, and writes the text of each before it reads the next.
-/// It flushes the text if the input may have to be waited for before the next message is whole.
-pub(crate) fn print_all<S: Peek, O: ByteOut, E: Engine>(
+/// It flushes the text as `flushing` says.
+pub(crate) fn print_all<S: WordSource, O: ByteOut, E: Engine, F: Flushing<S>>(
     source: &mut S,
     out: &mut O,
     settings: &Settings,
     engine: &E,
+    flushing: &F,
 ) -> Result<Outcome, RunFault> {
-    print_each(source, out, settings, engine)
+    print_each(source, out, settings, engine, flushing)
 }

@@ -2,10 +2,10 @@
 //! The engines that put the words of one encoding in another. They don't look at framing.
 
 use crate::cap_run::fault::output_fault;
-use crate::cap_run::waiting::{flush_sink, waits_for_word, Peek};
+use crate::cap_run::waiting::{flush_sink, FlushNever, Flushing};
 use crate::cap_text::CopyFault;
 use capvet_core::cap_pack::Packer;
-use capvet_core::cap_words::{ByteOut, OutFault, WordSink};
+use capvet_core::cap_words::{ByteOut, OutFault, WordSink, WordSource};
 
 // The buffer of `run_pack` in bytes. The packer gets at most these 64 words in one call.
 const BUFFER_TO_PACK: usize = 8 * 64;
@@ -14,14 +14,13 @@ const BUFFER_TO_PACK: usize = 8 * 64;
 const BUFFER_TO_UNPACK: usize = 8 * 1024;
 
 /// Puts the buffered words of the source that fit in `buffer`, in one call, and returns how many
-/// words these are. They are flushed if the input may have to be waited for. 0 doesn't say that no
-/// words are to come.
+/// words these are. They are flushed as `flushing` says. 0 doesn't say that no words are to come.
 #[inline]
-fn put_ready<S: Peek, K: WordSink>(
+fn put_ready<S: WordSource, K: WordSink, F: Flushing<S>>(
     source: &mut S,
     sink: &mut K,
     buffer: &mut [u8],
-    live: bool,
+    flushing: &F,
 ) -> Result<u64, OutFault> {
     let count = source.ready(buffer);
     if count == 0 {
@@ -30,23 +29,23 @@ fn put_ready<S: Peek, K: WordSink>(
     if let Err(fault) = sink.put_bytes(&buffer[..count]) {
         return Err(output_fault(fault));
     }
-    match flush_sink(sink, waits_for_word(source, live)) {
+    match flush_sink(sink, flushing.before_word(source)) {
         Ok(()) => Ok(count as u64 / 8),
         Err(fault) => Err(output_fault(fault)),
     }
 }
 
-/// Puts a word that was read. It is flushed if the input may have to be waited for.
-fn put_word<S: Peek, K: WordSink>(
+/// Puts a word that was read. It is flushed as `flushing` says.
+fn put_word<S: WordSource, K: WordSink, F: Flushing<S>>(
     source: &S,
     sink: &mut K,
     word: u64,
-    live: bool,
+    flushing: &F,
 ) -> Result<(), OutFault> {
     if let Err(fault) = sink.put(word) {
         return Err(output_fault(fault));
     }
-    match flush_sink(sink, waits_for_word(source, live)) {
+    match flush_sink(sink, flushing.before_word(source)) {
         Ok(()) => Ok(()),
         Err(fault) => Err(output_fault(fault)),
     }
@@ -55,17 +54,17 @@ fn put_word<S: Peek, K: WordSink>(
 /// Puts the words of a source to a sink, at most `words` of them, and doesn't finish the sink. One
 /// piece is the buffered words that fit in `buffer`, or one word if none are buffered. Returns how
 /// many words were put.
-fn put_words<S: Peek, K: WordSink>(
+fn put_words<S: WordSource, K: WordSink, F: Flushing<S>>(
     source: &mut S,
     sink: &mut K,
     words: u64,
     buffer: &mut [u8],
-    live: bool,
+    flushing: &F,
 ) -> Result<u64, CopyFault> {
     let mut put = 0;
     while put < words {
         let most = (words - put).min(buffer.len() as u64 / 8) as usize;
-        let count = match put_ready(source, sink, &mut buffer[..8 * most], live) {
+        let count = match put_ready(source, sink, &mut buffer[..8 * most], flushing) {
             Ok(count) => count,
             Err(fault) => return Err(CopyFault::Output(fault)),
         };
@@ -75,7 +74,7 @@ fn put_words<S: Peek, K: WordSink>(
         }
         match source.next() {
             Ok(Some(word)) => {
-                if let Err(fault) = put_word(source, sink, word, live) {
+                if let Err(fault) = put_word(source, sink, word, flushing) {
                     return Err(CopyFault::Output(fault));
                 }
             }
@@ -101,14 +100,14 @@ fn without_fault(answer: &Result<u64, CopyFault>) -> bool {
 
 /// Puts the words of a source to a sink, at most `words` of them, in pieces that fit in `buffer`.
 /// Finishes the sink unless the output failed before.
-fn transcode<S: Peek, K: WordSink>(
+fn transcode<S: WordSource, K: WordSink, F: Flushing<S>>(
     source: &mut S,
     sink: &mut K,
     words: u64,
     buffer: &mut [u8],
-    live: bool,
+    flushing: &F,
 ) -> Result<u64, CopyFault> {
-    let answer = put_words(source, sink, words, buffer, live);
+    let answer = put_words(source, sink, words, buffer, flushing);
     if without_fault(&answer) {
         match sink.finish() {
             Ok(()) => answer,
@@ -119,11 +118,24 @@ fn transcode<S: Peek, K: WordSink>(
     }
 }
 
+/// Does what [`run_pack_with`] does, without a flush.
+///
+/// # Errors
+///
+/// Those of [`run_pack_with`].
+pub fn run_pack<S: WordSource, O: ByteOut>(
+    source: &mut S,
+    sink: &mut Packer<O>,
+    words: u64,
+) -> Result<u64, CopyFault> {
+    run_pack_with(source, sink, words, &FlushNever)
+}
+
 /// Packs the words of a source, at most `words` of them, finishes the packer, and returns how many
 /// words there were (encoding: Packing). It doesn't look at what the words mean.
 ///
-/// With `live` the output is flushed before the source is asked for a word that isn't buffered. The
-/// group that the packer holds back isn't written then: its text depends on the next word.
+/// The output is flushed as `flushing` says. The group that the packer holds back isn't written then:
+/// its text depends on the next word.
 ///
 /// Allocates nothing itself: the words pass through a buffer of 512 bytes on the stack. The packer
 /// is closed after the call in any case.
@@ -140,20 +152,33 @@ fn transcode<S: Peek, K: WordSink>(
 ///   after the piece was read.
 ///
 /// If finishing the packer fails after another error, `Output` is returned.
-pub fn run_pack<S: Peek, O: ByteOut>(
+pub fn run_pack_with<S: WordSource, O: ByteOut, F: Flushing<S>>(
     source: &mut S,
     sink: &mut Packer<O>,
     words: u64,
-    live: bool,
+    flushing: &F,
 ) -> Result<u64, CopyFault> {
-    transcode(source, sink, words, &mut [0; BUFFER_TO_PACK], live)
+    transcode(source, sink, words, &mut [0; BUFFER_TO_PACK], flushing)
+}
+
+/// Does what [`run_unpack_with`] does, without a flush.
+///
+/// # Errors
+///
+/// Those of [`run_unpack_with`].
+pub fn run_unpack<S: WordSource, K: WordSink>(
+    source: &mut S,
+    sink: &mut K,
+    words: u64,
+) -> Result<u64, CopyFault> {
+    run_unpack_with(source, sink, words, &FlushNever)
 }
 
 /// Puts the words of a source to a sink, at most `words` of them, finishes the sink, and returns
 /// how many words there were. With an unpacker as the source this unpacks (encoding: Packing). It
 /// doesn't look at what the words mean.
 ///
-/// With `live` the sink is flushed before the source is asked for a word that isn't buffered.
+/// The sink is flushed as `flushing` says.
 ///
 /// Allocates nothing itself: the words pass through a buffer of 8192 bytes on the stack. The sink
 /// is closed after the call in any case.
@@ -170,11 +195,11 @@ pub fn run_pack<S: Peek, O: ByteOut>(
 ///   piece was read.
 ///
 /// If finishing the sink fails after another error, `Output` is returned.
-pub fn run_unpack<S: Peek, K: WordSink>(
+pub fn run_unpack_with<S: WordSource, K: WordSink, F: Flushing<S>>(
     source: &mut S,
     sink: &mut K,
     words: u64,
-    live: bool,
+    flushing: &F,
 ) -> Result<u64, CopyFault> {
-    transcode(source, sink, words, &mut [0; BUFFER_TO_UNPACK], live)
+    transcode(source, sink, words, &mut [0; BUFFER_TO_UNPACK], flushing)
 }

@@ -4,11 +4,11 @@
 use crate::cap_run::engines::stream::Counted;
 use crate::cap_run::engines::whole::{after_text, vet_all, Printer};
 use crate::cap_run::settings::{Outcome, Settings};
-use crate::cap_run::waiting::Peek;
+use crate::cap_run::waiting::{FlushNever, Flushing};
 use crate::cap_text::{write_accepted, Cause, Page, RunFault};
 use capvet_core::cap_frame::Segments;
 use capvet_core::cap_vet::{Demands, Vetted};
-use capvet_core::cap_words::ByteOut;
+use capvet_core::cap_words::{ByteOut, WordSource};
 use capvet_core::rattle::alloc::Global;
 
 /// Writes the numbers of a message's tree.
@@ -30,19 +30,26 @@ impl Printer for VetPrinter {
     }
 }
 
-/// Does what [`run_vet_with`] does, without demands: a message is accepted if its root denotes a
-/// finite tree within `settings.limits`.
+/// Does what [`run_vet_with`] does, without demands and without a flush: a message is accepted if
+/// its root denotes a finite tree within `settings.limits`.
 ///
 /// # Errors
 ///
 /// Those of [`run_vet_with`].
-pub fn run_vet<S: Peek, O: ByteOut>(
+pub fn run_vet<S: WordSource, O: ByteOut>(
     alloc: Global,
     source: &mut S,
     out: &mut O,
     settings: &Settings,
 ) -> Result<Outcome, RunFault> {
-    run_vet_with(alloc, source, out, settings, Demands::default())
+    run_vet_with(
+        alloc,
+        source,
+        out,
+        settings,
+        Demands::default(),
+        &FlushNever,
+    )
 }
 
 /// Reads the messages of a stream to its end, and vets each under demands (encoding: Security
@@ -52,7 +59,7 @@ pub fn run_vet<S: Peek, O: ByteOut>(
 /// place, see [`vet_with`](cap_vet::vet_with).
 ///
 /// A refused message is counted, and doesn't end the run. The line of a message is written before
-/// the next message is read, and flushed as `settings.live` says.
+/// the next message is read, and flushed as `flushing` says.
 ///
 /// Allocates only to hold a message that is larger than all before it: eight bytes for each word.
 ///
@@ -67,12 +74,13 @@ pub fn run_vet<S: Peek, O: ByteOut>(
 ///   [`FrameFault`](cap_frame::FrameFault).
 /// - [`Cause::Output`](crate::Cause::Output): the output failed as the line was written or flushed.
 ///   It took a prefix of the line, or all of it.
-pub fn run_vet_with<S: Peek, O: ByteOut>(
+pub fn run_vet_with<S: WordSource, O: ByteOut, F: Flushing<S>>(
     alloc: Global,
     source: &mut S,
     out: &mut O,
     settings: &Settings,
     demands: Demands,
+    flushing: &F,
 ) -> Result<Outcome, RunFault> {
-    vet_all(alloc, source, out, settings, demands, VetPrinter)
+    vet_all(alloc, source, out, settings, demands, VetPrinter, flushing)
 }

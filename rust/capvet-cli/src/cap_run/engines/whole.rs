@@ -3,7 +3,7 @@
 
 use crate::cap_run::engines::stream::{print_all, Counted, Engine};
 use crate::cap_run::settings::{Outcome, Settings};
-use crate::cap_run::waiting::Peek;
+use crate::cap_run::waiting::Flushing;
 use crate::cap_text::{write_refused, Cause, Page, RunFault};
 use capvet_core::cap_frame::{read_into, ByteMessage, Segments, SizeLimit};
 use capvet_core::cap_vet::{vet_with, Demands, Limits, Vetted};
@@ -130,29 +130,31 @@ impl<J: Judge> Engine for Whole<J> {
 }
 
 /// Reads each message of a stream whole, and writes the text that comes of it.
-pub(crate) fn judge_all<S: Peek, O: ByteOut, J: Judge>(
+pub(crate) fn judge_all<S: WordSource, O: ByteOut, J: Judge, F: Flushing<S>>(
     alloc: Global,
     source: &mut S,
     out: &mut O,
     settings: &Settings,
     judge: J,
+    flushing: &F,
 ) -> Result<Outcome, RunFault> {
-    print_all(source, out, settings, &Whole { alloc, judge })
+    print_all(source, out, settings, &Whole { alloc, judge }, flushing)
 }
 
 /// Vets each message of a stream, and writes the text of a teller for each that meets the demands.
-pub(crate) fn vet_all<S: Peek, O: ByteOut, T: Printer>(
+pub(crate) fn vet_all<S: WordSource, O: ByteOut, T: Printer, F: Flushing<S>>(
     alloc: Global,
     source: &mut S,
     out: &mut O,
     settings: &Settings,
     demands: Demands,
     printer: T,
+    flushing: &F,
 ) -> Result<Outcome, RunFault> {
     let vetting = Vetting {
         limits: settings.limits,
         demands,
         printer,
     };
-    judge_all(alloc, source, out, settings, vetting)
+    judge_all(alloc, source, out, settings, vetting, flushing)
 }

@@ -1,0 +1,154 @@
+// crates/cap_cmd/src/asking.rt without its contracts, by tools/erase: that text is proved, this one is only tested.
+//! What a command and its options ask: the task, the demands on each message, and the limits.
+
+use crate::rattle::String;
+use capvet_core::rattle::Vec;
+
+use crate::cap_cmd::jobs::{Job, Task, Work};
+use crate::cap_run::{Demands, FilterForm, Settings, Step};
+use capvet_core::cap_frame::SizeLimit;
+use capvet_core::cap_vet::Limits;
+
+/// What a command without demands demands of a message.
+pub(crate) const NO_DEMANDS: Demands = Demands {
+    strict: false,
+    unamplified: false,
+};
+
+/// A command of the program.
+#[derive(Clone, Copy)]
+pub(crate) enum Command {
+    Segments,
+    Vet,
+    Explain,
+    Filter,
+    Dump,
+    Get,
+    Check,
+    Canon,
+    Pack,
+    Unpack,
+}
+
+/// The options of a command line: a flag is true if the option is there, and a number is that of the
+/// option, or its default. A flag that a command doesn't take is false.
+#[derive(Clone, Copy)]
+pub(crate) struct Options {
+    pub(crate) packed: bool,
+    pub(crate) size: u64,
+    pub(crate) words: u64,
+    pub(crate) depth: u32,
+    pub(crate) strict: bool,
+    pub(crate) unamplified: bool,
+    pub(crate) allow_nonstrict: bool,
+    pub(crate) allow_amplified: bool,
+    pub(crate) exclusive: bool,
+    pub(crate) stop: bool,
+    pub(crate) pack: bool,
+}
+
+/// The command of this name.
+pub(crate) fn command_of(name: &str) -> Option<Command> {
+    match name {
+        "segments" => Some(Command::Segments),
+        "vet" => Some(Command::Vet),
+        "explain" => Some(Command::Explain),
+        "filter" => Some(Command::Filter),
+        "dump" => Some(Command::Dump),
+        "get" => Some(Command::Get),
+        "check" => Some(Command::Check),
+        "canon" => Some(Command::Canon),
+        "pack" => Some(Command::Pack),
+        "unpack" => Some(Command::Unpack),
+        _ => None,
+    }
+}
+
+/// What is demanded of each message. A filter makes both demands, unless an option lifts one.
+fn demands_of(command: Command, options: &Options) -> Demands {
+    match command {
+        Command::Filter => Demands {
+            strict: !options.allow_nonstrict,
+            unamplified: !options.allow_amplified,
+        },
+        _ => Demands {
+            strict: options.strict,
+            unamplified: options.unamplified,
+        },
+    }
+}
+
+/// Work without demands, as a task.
+fn plain_task(work: Work) -> Task {
+    let demands = NO_DEMANDS;
+    match work {
+        Work::Vet { exclusive: false } => Task::Vet,
+        Work::Dump => Task::Dump,
+        Work::Get { path } => Task::Get { path },
+        Work::Check => Task::Check,
+        Work::Canon => Task::Canon,
+        Work::Vet { .. } | Work::Explain { .. } | Work::Filter { .. } => {
+            Task::Under { demands, work }
+        }
+    }
+}
+
+/// Work under demands, as a task.
+fn task_under(demands: Demands, work: Work) -> Task {
+    if demands.strict || demands.unamplified {
+        Task::Under { demands, work }
+    } else {
+        plain_task(work)
+    }
+}
+
+/// The task of a command. `path` is that of `get`.
+fn task_of(command: Command, options: &Options, path: Vec<Step>) -> Task {
+    let demands = demands_of(command, options);
+    let exclusive = options.exclusive;
+    match command {
+        Command::Segments => Task::Segments,
+        Command::Pack => Task::Pack,
+        Command::Unpack => Task::Unpack,
+        Command::Vet => task_under(demands, Work::Vet { exclusive }),
+        Command::Explain => task_under(demands, Work::Explain { exclusive }),
+        Command::Filter => {
+            let form = FilterForm {
+                exclusive,
+                stop: options.stop,
+                pack: options.pack,
+            };
+            task_under(demands, Work::Filter { form })
+        }
+        Command::Dump => task_under(demands, Work::Dump),
+        Command::Get => task_under(demands, Work::Get { path }),
+        Command::Check => task_under(demands, Work::Check),
+        Command::Canon => task_under(demands, Work::Canon),
+    }
+}
+
+/// The settings of the options, or `None` if a limit is out of range. No option sets how many
+/// messages there may be.
+fn settings_of(options: &Options) -> Option<Settings> {
+    Some(Settings {
+        limits: Limits::new(options.words, options.depth)?,
+        size: SizeLimit::new(options.size)?,
+        messages: u32::MAX,
+    })
+}
+
+/// The job that a command and its options ask for. `path` is that of `get`. `None` if a limit is out
+/// of range.
+pub(crate) fn job_of(
+    command: Command,
+    options: &Options,
+    path: Vec<Step>,
+    file: Option<String>,
+) -> Option<Job> {
+    Some(Job {
+        settings: settings_of(options)?,
+        task: task_of(command, options, path),
+        packed: options.packed,
+        file,
+    })
+}
