@@ -65,7 +65,7 @@ static NULL: [u8; 16] = [0, 0, 0, 0, 1, 0, 0, 0, 0, 0, 0, 0, 0, 0, 0, 0];
 fn packs_the_word_before_one_too_many(rt: HostRuntime) {
     let mut source = PlainWords::new(SliceIn::new(&NULL));
     let mut sink = Packer::new(VecOut::new(rt.alloc()));
-    let given = run_pack(&mut source, &mut sink, 1, true);
+    let given = run_pack(&mut source, &mut sink, 1);
     same(&rt, given, Err(CopyFault::TooManyWords));
     same(&rt, sink.into_inner().bytes(), [0x10, 1].as_slice());
 }
@@ -80,7 +80,7 @@ static RUN: [u8; 22] = [
 fn unpacks_the_words_before_a_cut(rt: HostRuntime) {
     let mut source = Unpacker::new(SliceIn::new(&RUN));
     let mut sink = PlainSink::new(VecOut::new(rt.alloc()));
-    let given = run_unpack(&mut source, &mut sink, 3, true);
+    let given = run_unpack(&mut source, &mut sink, 3);
     let fault = CopyFault::Source(SourceFault::Truncated { byte: 22 });
     same(&rt, given, Err(fault));
     same(&rt, sink.into_inner().bytes(), [0x8a; 16].as_slice());
