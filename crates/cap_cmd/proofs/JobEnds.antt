@@ -218,8 +218,8 @@ module _ {S O E P U : Type 0} (gs : source.Ghosts S) (go : output.Ghosts O) (ge 
       → WritesAll t packed s (gs.words first) (gs.is_cut first) (go.written before) (go.written after)
   writes_all task.Segments packed s first before after old new status e d =
       reported_all gs go s first d.last ReportsSegments AllocatesNone before after d.answer (sym d.exited.status_is ∙ e) d.does.reported
-  writes_all task.Vet packed s first before after old new status e d =
-      writes_under gs go ge gu no_demands (work.Vet false) packed s first before after old new status e d
+  writes_all (task.Vet exclusive) packed s first before after old new status e d =
+      writes_under gs go ge gu no_demands (work.Vet exclusive) packed s first before after old new status e d
   writes_all task.Dump packed s first before after old new status e d =
       writes_under gs go ge gu no_demands work.Dump packed s first before after old new status e d
   writes_all (task.Get path) packed s first before after old new status e d =

@@ -1,5 +1,5 @@
 -- What the commands and options of a command line ask (profile).
-use Rattle.std.specs.Prelude.{Bool, List, codes, false, if◌then◌else◌, not, true, ℕ, ◌||◌, ◌≡◌, ◌≤◌}
+use Rattle.std.specs.Prelude.{Bool, List, codes, if◌then◌else◌, not, ℕ, ◌||◌, ◌≡◌, ◌≤◌}
 use Rattle.std.specs.Global.{Vec}
 use Rattle.cap_spec.specs.GreatestLimits.{most_depth, most_words}
 use Rattle.cap_spec.specs.declared.Step.{Step}
@@ -54,8 +54,7 @@ form_asked o = record { exclusive = o.exclusive; stop = o.stop; pack = o.pack }
 
 -- work without demands, as a task
 abbrev pub plain_task : Work → Task
-plain_task (work.Vet false) = task.Vet
-plain_task (work.Vet true) = task.Under no_demands (work.Vet true)
+plain_task (work.Vet exclusive) = task.Vet exclusive
 plain_task (work.Explain exclusive) = task.Under no_demands (work.Explain exclusive)
 plain_task (work.Filter form) = task.Under no_demands (work.Filter form)
 plain_task work.Dump = task.Dump

@@ -48,7 +48,7 @@ use Rattle.cap_words.specs.declared.sources.WordSource as source
 -- the input of unpacking is packed, that of packing is not, and for messages the user decides
 abbrev pub is_packed : Task → Bool → Bool
 is_packed task.Segments asked = asked
-is_packed task.Vet asked = asked
+is_packed (task.Vet exclusive) asked = asked
 is_packed task.Dump asked = asked
 is_packed (task.Get path) asked = asked
 is_packed task.Check asked = asked
@@ -236,8 +236,8 @@ module _ {S O E P U : Type 0} (gs : source.Ghosts S) (go : output.Ghosts O) (ge 
   DoesTask task.Segments packed s first before after = Runs
       (λ last answer. ShowsStream gs go (limit_of s.size) s.messages first last before after answer)
       (ExitsRun ge)
-  DoesTask task.Vet packed s first before after =
-      DoesUnder gs go ge gu no_demands (work.Vet false) packed s first before after
+  DoesTask (task.Vet exclusive) packed s first before after =
+      DoesUnder gs go ge gu no_demands (work.Vet exclusive) packed s first before after
   DoesTask task.Dump packed s first before after =
       DoesUnder gs go ge gu no_demands work.Dump packed s first before after
   DoesTask (task.Get path) packed s first before after =
@@ -333,7 +333,7 @@ WritesUnder demands work.Canon packed s = CanonsInput s demands
 abbrev pub WritesAll : Task → Bool → Settings → Option (List ℕ) → Bool → Option (List ℕ)
     → Option (List ℕ) → Type 0
 WritesAll task.Segments packed s = ReportsInput ReportsSegments s
-WritesAll task.Vet packed s = WritesUnder no_demands (work.Vet false) packed s
+WritesAll (task.Vet exclusive) packed s = WritesUnder no_demands (work.Vet exclusive) packed s
 WritesAll task.Dump packed s = WritesUnder no_demands work.Dump packed s
 WritesAll (task.Get path) packed s = WritesUnder no_demands (work.Get path) packed s
 WritesAll task.Check packed s = WritesUnder no_demands work.Check packed s

@@ -91,15 +91,12 @@ fn plain_task(work: Work) -> Task
 {
     let demands = NO_DEMANDS;
     match work {
-        Work::Vet { exclusive: false } => Task::Vet,
+        Work::Vet { exclusive } => Task::Vet { exclusive },
         Work::Dump => Task::Dump,
         Work::Get { path } => Task::Get { path },
         Work::Check => Task::Check,
         Work::Canon => Task::Canon,
-        Work::Vet { .. } | Work::Explain { .. } | Work::Filter { .. } => Task::Under {
-            demands,
-            work,
-        },
+        Work::Explain { .. } | Work::Filter { .. } => Task::Under { demands, work },
     }
 }
 

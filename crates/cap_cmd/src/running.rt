@@ -32,7 +32,7 @@ fn input_is_packed(job: &Job) -> bool
     ensures { result ≡ reads_packed job.now }
 {
     match &job.task {
-        Task::Segments | Task::Vet | Task::Dump | Task::Get { .. } => job.packed,
+        Task::Segments | Task::Vet { .. } | Task::Dump | Task::Get { .. } => job.packed,
         Task::Check | Task::Canon | Task::Under { .. } => job.packed,
         Task::Pack => false,
         Task::Unpack => true,
@@ -298,8 +298,8 @@ fn run_over<S: Peek + Drop, O: ByteOut, E: ByteOut>(
             let answer = run_segments_with(&mut source, &mut out, settings, flushing);
             (report_run(err, &answer), out)
         }
-        Task::Vet => {
-            let status = course.vet(NO_DEMANDS, false, &mut source, &mut out, err);
+        Task::Vet { exclusive } => {
+            let status = course.vet(NO_DEMANDS, *exclusive, &mut source, &mut out, err);
             (status, out)
         }
         Task::Dump => course.under(NO_DEMANDS, &Work::Dump, &mut source, out, err),

@@ -11,7 +11,7 @@ use std::test::Fail;
 fn task(task: &Task) -> usize {
     match task {
         Task::Segments => 1,
-        Task::Vet => 2,
+        Task::Vet { exclusive } => usize::from(*exclusive),
         Task::Dump => 3,
         Task::Check => 4,
         Task::Canon => 5,

@@ -11,7 +11,10 @@ pub enum Task {
     /// To show the segments of each message.
     Segments,
     /// To report for each message whether it is accepted.
-    Vet,
+    Vet {
+        /// Whether it is refused too where some word is used twice.
+        exclusive: bool,
+    },
     /// To write the tree of each message that is accepted.
     Dump,
     /// To show the node that each message's tree has at a path.

@@ -27,7 +27,7 @@ const MOST_WORDS: u64 = 1099511627776;
 /// Whether the input of a job is packed.
 fn input_is_packed(job: &Job) -> bool {
     match &job.task {
-        Task::Segments | Task::Vet | Task::Dump | Task::Get { .. } => job.packed,
+        Task::Segments | Task::Vet { .. } | Task::Dump | Task::Get { .. } => job.packed,
         Task::Check | Task::Canon | Task::Under { .. } => job.packed,
         Task::Pack => false,
         Task::Unpack => true,
@@ -247,8 +247,8 @@ fn run_over<S: Peek, O: ByteOut, E: ByteOut>(
             let answer = run_segments_with(&mut source, &mut out, settings, flushing);
             (report_run(err, &answer), out)
         }
-        Task::Vet => {
-            let status = course.vet(NO_DEMANDS, false, &mut source, &mut out, err);
+        Task::Vet { exclusive } => {
+            let status = course.vet(NO_DEMANDS, *exclusive, &mut source, &mut out, err);
             (status, out)
         }
         Task::Dump => course.under(NO_DEMANDS, &Work::Dump, &mut source, out, err),
