@@ -218,9 +218,15 @@ pub fn some_limits(random: &mut Random) -> CallLimits {
         let words = random.one_of(&[2, 20, 400, 5000, 1 << 28]);
         limits.charge = random.near(words);
     }
-    if random.once_in(4) {
-        let levels = random.one_of(&[2, 4, 64, 65, 128, 256]);
-        limits.depth = random.near(levels) as u32;
+    match random.below(6) {
+        0 => limits.depth = random.near(64) as u32,
+        1 => {
+            let levels = random.one_of(&[2, 4, 128, 256]);
+            limits.depth = random.near(levels) as u32;
+        }
+        // (for chains of objects, which are as deep)
+        2 | 3 => limits.depth = 256,
+        _ => {}
     }
     limits.flags = match random.below(8) {
         0..=3 => 0,

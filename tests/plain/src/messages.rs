@@ -210,13 +210,14 @@ fn tree(random: &mut Random) -> (Vec<Vec<u64>>, Vec<(usize, usize)>) {
 /// A chain of objects whose last one is at a level near 64, 128 or 256: structs, lists of pointers, lists of structs. The last
 /// pointer is null, or bad.
 fn chain(random: &mut Random) -> (Vec<Vec<u64>>, Vec<(usize, usize)>) {
+    let kind = random.below(4);
+    // (a list of structs takes two levels and two steps of a path)
+    let deepest = if kind == 2 { 128 } else { 256 };
     let levels = match random.below(4) {
         0 => random.near(64),
-        1 => random.near(128),
-        2 => random.near(256),
+        1 | 2 => random.near(deepest),
         _ => random.below(20),
     };
-    let kind = random.below(4);
     let (mut words, mut pointers) = (vec![0], vec![(0, 0)]);
     let mut at = 0;
     for level in 0..levels {
@@ -397,8 +398,8 @@ pub fn message(random: &mut Random) -> Vec<u8> {
     let (mut segments, pointers) = match random.below(20) {
         0..=10 => tree(random),
         11 | 12 => pads(random),
-        13 | 14 => chain(random),
-        15 | 16 => amplified(random),
+        13..=15 => chain(random),
+        16 => amplified(random),
         17 => many_segments(random),
         _ => runs(random),
     };
