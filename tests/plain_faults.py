@@ -47,7 +47,7 @@ CHANGES = (
     Change("the most separate segments", "cap_calls/slices.rs", "if slices.len() > 512", "if slices.len() > 513"),
     Change("the literal words that a state may have", "cap_calls/calls/unpack_message.rs", "state.literal_words <= 255",
            "state.literal_words <= 256"),
-    Change("the longest path that is explained", "cap_explain/path.rs", "STEPS: usize = 257", "STEPS: usize = 256"),
+    Change("the longest path that is explained", "cap_trace/naming.rs", "STEPS: usize = 256", "STEPS: usize = 255"),
     Change("the greatest number of a pointer in a path", "cap_path/reading.rs", "letter + 1, 65535)", "letter + 1, 65534)"),
     Change("the segments of a strict message", "cap_vet/strictness/path_strictness.rs", "message.count() > MOST_SEGMENTS",
            "message.count() >= MOST_SEGMENTS"),
