@@ -203,6 +203,7 @@ impl Course {
             err.old err.new result.0 }
     {
         let (mut out, alloc, settings) = (out, self.alloc, &self.settings);
+        let flushing = &self.flushing;
         match work {
             Work::Vet { exclusive } => {
                 let status = self.vet(demands, *exclusive, source, &mut out, err);
@@ -217,14 +218,7 @@ impl Course {
                 (status, out)
             }
             Work::Dump => {
-                let answer = run_dump_with(
-                    alloc,
-                    source,
-                    &mut out,
-                    settings,
-                    demands,
-                    &self.flushing,
-                );
+                let answer = run_dump_with(alloc, source, &mut out, settings, demands, flushing);
                 (report_run(err, &answer), out)
             }
             Work::Get { path } => {
@@ -232,14 +226,7 @@ impl Course {
                 (status, out)
             }
             Work::Check => {
-                let answer = run_check_with(
-                    alloc,
-                    source,
-                    &mut out,
-                    settings,
-                    demands,
-                    &self.flushing,
-                );
+                let answer = run_check_with(alloc, source, &mut out, settings, demands, flushing);
                 (report_run(err, &answer), out)
             }
             Work::Canon => self.canon(demands, source, out, err),

@@ -169,6 +169,7 @@ impl Course {
         err: &mut E,
     ) -> (u8, O) {
         let (mut out, alloc, settings) = (out, self.alloc, &self.settings);
+        let flushing = &self.flushing;
         match work {
             Work::Vet { exclusive } => {
                 let status = self.vet(demands, *exclusive, source, &mut out, err);
@@ -183,8 +184,7 @@ impl Course {
                 (status, out)
             }
             Work::Dump => {
-                let answer =
-                    run_dump_with(alloc, source, &mut out, settings, demands, &self.flushing);
+                let answer = run_dump_with(alloc, source, &mut out, settings, demands, flushing);
                 (report_run(err, &answer), out)
             }
             Work::Get { path } => {
@@ -192,8 +192,7 @@ impl Course {
                 (status, out)
             }
             Work::Check => {
-                let answer =
-                    run_check_with(alloc, source, &mut out, settings, demands, &self.flushing);
+                let answer = run_check_with(alloc, source, &mut out, settings, demands, flushing);
                 (report_run(err, &answer), out)
             }
             Work::Canon => self.canon(demands, source, out, err),
