@@ -14,7 +14,9 @@ pub(crate) trait Pass {
 }
 
 /// Walks a message of this depth. Returns how many words its canonical copy has. Each message
-/// initializes its runs, so a walk that can't be deep has few of them.
+/// initializes its runs, so a walk that can't be deep has few of them. It isn't inlined: a caller that
+/// walks twice has the stack of one walk at a time.
+#[inline(never)]
 pub(crate) fn walk<M: Segments, P: Pass>(message: &M, depth: u32, pass: &mut P) -> u32 {
     if depth <= 8 {
         return walk_within::<M, P, 8>(message, depth, pass);
