@@ -152,6 +152,12 @@ pages:
 erase:
 	python3 tools/erase/erase.py
 
+# Builds the library for C by cargo, of that text, into build/cargo: for machines that Rattle's compiler doesn't build for. TARGET is
+# another target of Rust, as in `make capvet-c TARGET=x86_64-pc-windows-gnu`: see packaging/capvet_c.py.
+.PHONY: capvet-c
+capvet-c:
+	python3 packaging/capvet_c.py $(TARGET)
+
 # Checks a change of one crate, as in `make check CRATE=cap_vet`: the crate, those above it, the must-fail edits that the change
 # reaches, and the scripts that its behaviour is in.
 check:
