@@ -7,9 +7,10 @@ TARGET is a target of Rust, such as x86_64-pc-windows-gnu. Without it this machi
 build/cargo/TARGET. On Linux they are libcapvet.a and libcapvet.so.1. For MinGW they are libcapvet.a, capvet-1.dll and its import
 library libcapvet.dll.a. For others, as for macOS, they are the archive and the shared library that cargo makes.
 
-cargo's archive has hundreds of objects with global symbols. Two such archives, of two crates without std, don't link into one
-program. So what the calls need becomes one object here, in which the calls alone are global. The shared library is linked from
-that object, and on Linux with the name and the version node of the one that packing.py links from the proved archive.
+cargo's archive has hundreds of objects with global symbols. Two archives of crates without std, as rustc makes them, may have the
+same symbols, and don't link into one program then. So what the calls need becomes one object here, in which the calls alone are
+global. The shared library is linked from that object, and on Linux with the name and the version node of the one that packing.py
+links from the proved archive.
 
 Cargo and rustc are those of the path, and cargo takes crates from where its configuration says.
 """

@@ -42,6 +42,8 @@ SCRIPTS = (
     ("the guard", ["guard.py", PROGRAM, ARCHIVE]),
     ("the packages", ["dist.py", PROGRAM, ARCHIVE]),
     ("the text without contracts", ["plain.py", PROGRAM, ARCHIVE]),
+    ("the library for C by cargo", ["capvet_c.py", PROGRAM]),
+    ("the library for Windows by cargo", ["windows.py", PROGRAM]),
     ("messages before their readers", ["before_readers.py", PROGRAM, ARCHIVE]),
     ("RPC of Rust", ["rust_rpc.py", PROGRAM, ARCHIVE]),
     ("the library from C, C++ and Rust", ["library.py", PROGRAM, ARCHIVE]),

@@ -59,6 +59,12 @@ def names():
     return {number: "Ok" if name == "Good" else name for name, number in code.items()}
 
 
+def calls():
+    """The calls of the header that a library exports."""
+    text = re.sub(r"/\*.*?\*/", "", (ROOT / "include/capvet.h").read_text(), flags=re.DOTALL)
+    return re.findall(r"^(?!CAPVET_INLINE)\w+ (capvet_\w+)\([^)]*\) CAPVET_NOEXCEPT;", text, re.MULTILINE)
+
+
 def main():
     header = answers("include/capvet.h", r"^\s*CAPVET_(?!KIND_)([A-Z_]+) = (\d+)")
     code = answers("crates/cap_calls/src/answer.rt", CODE)

@@ -35,7 +35,7 @@ COMMANDS = {"aarch64-linux-gnu-gcc": "gcc-aarch64-linux-gnu libc6-dev-arm64-cros
             "parallel": "parallel", "pkg-config": "pkg-config", "qemu-aarch64": "qemu-user",
             "qemu-aarch64-static": "qemu-user-static", "qemu-x86_64": "qemu-user", "readelf": "binutils", "rt": "",
             "rustc": "rustc", "rustfmt": "rustfmt", "socat": "socat", "tsc": "node-typescript", "twine": "twine", "unzip": "unzip", "valgrind": "valgrind",
-            "wasm-opt": "binaryen", "zsh": "zsh"}
+            "wasm-opt": "binaryen", "wine": "wine wine64", "x86_64-w64-mingw32-gcc": "gcc-mingw-w64-x86-64", "zsh": "zsh"}
 # Modules of Python, by the name of what they are for.
 MODULES = {"wheel": ("cffi, setuptools, venv, wheel", "python3-cffi python3-setuptools python3-venv python3-wheel"),
            "pytest": ("hypothesis, pytest", "python3-pytest python3-hypothesis"),
@@ -64,7 +64,7 @@ OLDEST_RUST = Path("/usr/bin")
 # The compilers' own libraries for checks of memory.
 CHECKS = {"checks-clang": ("clang++", "libclang-rt-14-dev"), "checks-gcc": ("c++", "libgcc-12-dev")}
 # The packages of each name.
-NEEDS = COMMANDS | {"oldest-rust": "cargo rustc", "root": "", "descriptors": "", "debian-mirror": ""} | {
+NEEDS = COMMANDS | {"oldest-rust": "cargo rustc", "rust-for-windows": "libstd-rust-dev-windows", "root": "", "descriptors": "", "debian-mirror": ""} | {
     name: packages for part in (MODULES, LIBRARIES, SOURCES, GO_LIBRARIES, CHECKS) for name, (_, packages) in part.items()}
 
 
@@ -127,6 +127,8 @@ def has(name):
         return os.geteuid() == 0
     if name == "oldest-rust":
         return all((OLDEST_RUST / tool).exists() for tool in ("cargo", "rustc"))
+    if name == "rust-for-windows":
+        return any(Path("/usr/lib/rustlib/x86_64-pc-windows-gnu/lib").glob("libcore-*"))
     if name in SOURCES:
         return any(CRATES.glob(SOURCES[name][0]))
     if name == "descriptors":

@@ -1,8 +1,9 @@
 //! What C passes, as Rust has it.
 //!
-//! A pointer to a single struct or number is a reference in the signature of a call: the header forbids NULL there, asks for the
-//! usual alignment, and lets what is filled in overlap nothing else. What is only filled in may be uninitialised before, so it is a
-//! `MaybeUninit`, and each call first writes zeros there. A buffer is a pointer and a length, which the functions here join.
+//! A pointer to a single struct or number is a reference in the signature of a call. The header forbids NULL for it, and asks for
+//! the usual alignment. It also lets nothing that is filled in overlap another argument. A struct that is only filled in may be
+//! uninitialised before, so it is a `MaybeUninit`, and each call first writes zeros there. A buffer is a pointer and a length, which
+//! the functions here join.
 
 use capvet_core::cap_calls::{CallNode, CallReport};
 use core::slice;
