@@ -289,7 +289,7 @@ def shown(python, folder):
     variables = {**os.environ, "PATH": f"{place / 'venv/bin'}:{os.environ['PATH']}"}
     for command, expected in (it for language, text in blocks if language == "console"
                             for it in re.findall(r"^\$ (.*)\n((?:(?!\$ ).*\n)*)", text, re.M)):
-        needed = ["jq"] * ("jq" in command) + ["esbuild"] * (" map " in command)
+        needed = ["jq"] * ("jq" in command) + ["esbuild", "wasm-opt"] * (" map " in command)
         if missing(f"docs/python.md: {command}", *needed):
             continue
         compare(f"docs/python.md: {command}", expected, run(["bash", "-c", command], cwd=place, env=variables)[0])
