@@ -33,7 +33,7 @@ COMMANDS = {"aarch64-linux-gnu-gcc": "gcc-aarch64-linux-gnu libc6-dev-arm64-cros
             "go": "golang-go", "go-staticcheck": "go-staticcheck", "jq": "jq", "lintian": "lintian", "llvm-cov-14": "llvm-14",
             "make": "make", "man": "man-db", "mmdebstrap": "mmdebstrap", "mypy": "mypy", "node": "nodejs", "npm": "npm", "openssl": "openssl",
             "parallel": "parallel", "pkg-config": "pkg-config", "qemu-aarch64": "qemu-user",
-            "qemu-aarch64-static": "qemu-user-static", "qemu-x86_64": "qemu-user", "readelf": "binutils", "rt": "",
+            "qemu-aarch64-static": "qemu-user-static", "qemu-s390x": "qemu-user", "qemu-x86_64": "qemu-user", "readelf": "binutils", "rt": "",
             "rustc": "rustc", "rustfmt": "rustfmt", "socat": "socat", "tsc": "node-typescript", "twine": "twine", "unzip": "unzip", "valgrind": "valgrind",
             "wasm-opt": "binaryen", "wine": "wine wine64", "x86_64-w64-mingw32-gcc": "gcc-mingw-w64-x86-64", "zsh": "zsh"}
 # Modules of Python, by the name of what they are for.

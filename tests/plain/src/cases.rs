@@ -185,7 +185,8 @@ fn unpacked<C: Calls>(packed: &[u8], limits: &CallLimits, size: usize, state: Un
         match answer {
             0 => all.extend(&out[..required.min(out.len())]),
             1 | 4 if at == packed.len() => break,
-            1 | 4 => given = (report.input_required as usize).max(given * 3),
+            // (as many bytes as are asked for may be more than a usize of 32 bits has)
+            1 | 4 => given = report.input_required.max(given as u64 * 3).min(packed.len() as u64) as usize,
             9 => out.resize(required.min(MOST), FILL),
             _ => break,
         }
