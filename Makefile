@@ -216,10 +216,11 @@ times:
 
 # Times the built program beside plain copying of the same bytes. Where Cap'n Proto's own C++ library and Rust
 # crate are installed, it times them too. Then it times the library's calls beside the C++ library, in one process, the
-# program over small messages that take long, and the calls that read nodes and find paths.
+# program over small messages that take long, the calls that read nodes and find paths, and the calls as rustc builds them.
 bench:
 	python3 bench/bench.py
 	python3 bench/in_process.py
 	python3 bench/amplified.py
 	python3 bench/nodes.py
 	python3 bench/paths.py
+	python3 bench/plain.py

@@ -64,9 +64,9 @@ def small_message(rng):
     return framed(root + data + pointers + text + tag + records)
 
 
-def write_big(path):
+def write_big(path, words=2 * MIB):
     """A message of 64 MiB in all: a struct with four lists of random bytes, each of 16 MiB less a few words."""
-    sizes = [2 * MIB - 1, 2 * MIB - 1, 2 * MIB - 1, 2 * MIB - 3]
+    sizes = [words - 1, words - 1, words - 1, words - 3]
     rng = random.Random(1)
     with open(path, "wb") as out:
         out.write(struct.pack("<II", 0, 1 + 4 + sum(sizes)))
@@ -77,19 +77,18 @@ def write_big(path):
             out.write(rng.randbytes(8 * size))
 
 
-def write_small(path):
+def write_small(path, thousands=300):
     """A stream of some 300,000 small messages."""
     rng = random.Random(2)
     kinds = [small_message(rng) for _ in range(1000)]
     with open(path, "wb") as out:
-        for _ in range(300):
+        for _ in range(thousands):
             out.write(b"".join(kinds))
 
 
-def write_wide(path):
+def write_wide(path, count=2_000_000):
     """A message of 18.3 MiB: a list of pointers, most of them null, each tenth to a struct of two words."""
     rng = random.Random(3)
-    count = 2_000_000
     structs = count // 10
     with open(path, "wb") as out:
         out.write(struct.pack("<II", 0, 1 + count + 2 * structs))
@@ -99,9 +98,8 @@ def write_wide(path):
         out.write(b"".join(word(rng.randrange(1 << 60)) for _ in range(2 * structs)))
 
 
-def write_tree(path):
+def write_tree(path, depth=21):
     """A message of 8 million words: a binary tree of structs of two data words and two pointers."""
-    depth = 21
     total = (1 << depth) - 1
     with open(path, "wb") as out:
         out.write(struct.pack("<II", 0, 1 + 4 * total))
@@ -120,22 +118,22 @@ def tree_node(number, is_leaf):
     return data + struct_pointer(left, 2, 2) + struct_pointer(left + 3, 2, 2)
 
 
-def write_random(path):
+def write_random(path, blocks=64):
     """64 MiB of random bytes: hardly a word has a zero byte."""
     rng = random.Random(4)
     with open(path, "wb") as out:
-        for _ in range(64):
+        for _ in range(blocks):
             out.write(rng.randbytes(MIB))
 
 
-def write_zero(path):
+def write_zero(path, blocks=64):
     """64 MiB of zero words."""
     with open(path, "wb") as out:
-        for _ in range(64):
+        for _ in range(blocks):
             out.write(bytes(MIB))
 
 
-def write_mixed(path):
+def write_mixed(path, blocks=64):
     """64 MiB in which zero words, pointers, small numbers, text and random words take turns."""
     rng = random.Random(5)
     kinds = [
@@ -147,7 +145,7 @@ def write_mixed(path):
     ]
     block = b"".join(rng.choice(kinds)() for _ in range(MIB // 12))[:MIB]
     with open(path, "wb") as out:
-        for i in range(64):
+        for i in range(blocks):
             turn = 8 * rng.randrange(MIB // 8)
             out.write(block[turn:] + block[:turn])
 
