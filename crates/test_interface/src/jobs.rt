@@ -11,7 +11,8 @@ use std::test::Fail;
 fn task(task: &Task) -> usize {
     match task {
         Task::Segments => 1,
-        Task::Vet { exclusive } => usize::from(*exclusive),
+        Task::Vet { exclusive: false } => 2,
+        Task::Vet { exclusive: true } => 10,
         Task::Dump => 3,
         Task::Check => 4,
         Task::Canon => 5,
