@@ -93,11 +93,6 @@ def hide(upper, kept):
         inner[:] = [name for name in inner if name not in hidden]
 
 
-def asking():
-    """The files of tests/ that ask for a name which a new machine lacks."""
-    return {file.name for file in (TOP / "tests").glob("*.py") if set(names_of(file)) - BARE}
-
-
 def imports(script):
     """A script and the files of tests/ that it imports."""
     found, ahead = set(), [script]
@@ -111,6 +106,12 @@ def imports(script):
     return found
 
 
+def asks(script):
+    """Whether a script asks for a name that a new machine lacks: itself, or by a file that it imports if it asks for none itself."""
+    own = set(names_of(TOP / "tests" / script))
+    return bool(own - BARE if own else {it for name in imports(script) for it in names_of(TOP / "tests" / name)} - BARE)
+
+
 def said(text):
     """The output of the scripts, each with its name."""
     names, parts = NAMES.findall(text), NAMES.split(text)[2::2]
@@ -120,10 +121,10 @@ def said(text):
 def compared(text, status):
     """The scripts have passed, and each that leaves out something says so."""
     compare("the scripts on a new machine", 0, status)
-    parts, asks = said(text), asking()
+    parts = said(text)
     compare("scripts that ran", {name for name, _ in every.SCRIPTS}, set(parts))
     for name, words in every.SCRIPTS:
-        if imports(words[0]) & asks:
+        if asks(words[0]):
             compare(f"{name}: it says what it leaves out", True, "\nnot tested, without " in parts.get(name, ""))
 
 
@@ -132,7 +133,8 @@ def machine(folder):
     for name in ("layer/upper", "layer/work", "capvet", "bin", "home"):
         (folder / name).mkdir(parents=True)
     dist.clone(folder / "capvet", ["static"])
-    (folder / "capvet/build/capvet").chmod(0o755)
+    for program in ("capvet", "x86_64/capvet-static"):
+        (folder / "capvet/build" / program).chmod(0o755)
     for report in (TOP / "build").glob("*.report"):
         shutil.copy(report, folder / "capvet/build")
     (folder / "bin/rt").symlink_to(KIT / "bin/rt")

@@ -203,6 +203,9 @@ def versions():
         tagged = run(["git", "tag", "--list", f"v{version}"], cwd=TOP)[0].strip()
         compare(f"the tag of {text}", "" if text != version else f"v{version}", tagged)
         for number, commit in re.findall(r"^## (\S+) \(\d.*\)\n\n.*`git checkout (\w+)`", changes, re.M):
+            if run(["git", "cat-file", "-e", commit], cwd=TOP)[1] != 0:
+                print(f"{commit} isn't in this repository, which has not all commits: {number} isn't compared")
+                continue
             header, status = run(["git", "show", f"{commit}:include/capvet.h"], cwd=TOP)
             parts = re.findall(r"^#define CAPVET_VERSION_(?:MAJOR|MINOR|PATCH) (\d+)$", header, re.M)
             compare(f"the header at {commit}", (number, 0), (".".join(parts), status))
