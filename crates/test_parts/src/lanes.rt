@@ -47,8 +47,7 @@ fn gather_leaves_zero_bytes_out(rt: HostRuntime) {
 
 #[test]
 fn kernels_without_vectors_give_the_same(rt: HostRuntime) {
-    let mut i = 0;
-    while i < 9 {
+    for i in 0..9 {
         let tag = tag_of_word(WORDS[i]);
         same(&rt, tag, TAGS[i]);
         let present = squeezed(tag, WORDS[i]);
@@ -56,7 +55,6 @@ fn kernels_without_vectors_give_the_same(rt: HostRuntime) {
         let _count = gather(WORDS[i], &mut gathered);
         same(&rt, &present[..], &gathered[..]);
         same(&rt, scatter(tag, &present), WORDS[i]);
-        i += 1;
     }
     // whole eights alone are counted
     same(&rt, zeros_of_eights(&[0; 17]), 16);
