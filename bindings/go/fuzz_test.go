@@ -356,13 +356,14 @@ func fuzzExplain(t *testing.T, in *input, b []byte, vetted error) {
 	}
 }
 
-// placeOf returns the place in bytes of a position in a message with its table, and the word there.
+// placeOf returns the place in bytes of a position in a message, with its table if it has one, and the word there.
 func placeOf(b []byte, l capvet.Limits, p capvet.Position) (int, []byte) {
-	segments := [][]byte{b}
+	segments, table := [][]byte{b}, 0
 	if !l.NoTable {
 		segments, _ = capvet.Segments(b)
+		table = 8 * (len(segments)/2 + 1)
 	}
-	place := 8*(len(segments)/2+1) + 8*int(p.Word)
+	place := table + 8*int(p.Word)
 	for _, segment := range segments[:p.Segment] {
 		place += len(segment)
 	}

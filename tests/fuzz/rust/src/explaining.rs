@@ -73,8 +73,9 @@ fn check_path_line(it: &Input, refusal: &Refusal, lines: &str) {
 /// The bytes at the place of the pointer are those of its word.
 fn check_place(it: &Input, lines: &str) {
     let after = |name: &str| Some(lines.split_once(name)?.1);
-    let Some(place) = after("\n  byte ") else {
-        return;
+    let place = match after("\n  byte ") {
+        Some(place) => place,
+        None => return,
     };
     let at: usize = place.split_once(' ').unwrap().0.parse().unwrap();
     let word: String = it.bytes[at..at + 8]
