@@ -29,6 +29,17 @@ pub number_take : (i n m : ℕ) (xs : List ℕ) → i + n ≤ m → little_from 
 number_take i zero m xs h = refl
 number_take i (suc n) m xs h = search (rules, get_or-take, number_take (suc i) n m xs (omega arith))
 
+-- the eight bytes from a place on, and the number in them
+pub eight_in : (bs : List ℕ) (at : ℕ) → at + 8 ≤ length bs → 8 ≤ length (take (at + 8 - at) (drop at bs))
+eight_in bs at h =
+    let e : at + 8 - at ≡ 8 = omega arith in
+    rw e (omega (arith, length-take-le 8 (drop at bs) (omega (arith, length-drop at bs, h))))
+
+pub number_in : (bs : List ℕ) (at : ℕ) → little_number 8 (take (at + 8 - at) (drop at bs)) ≡ little_number 8 (drop at bs)
+number_in bs at =
+    let e : at + 8 - at ≡ 8 = omega arith in
+    ap (λ n. little_number 8 (take n (drop at bs))) e ∙ number_take 0 8 8 (drop at bs) (omega arith)
+
 -- where segment s starts
 pub start_is : (at : ℕ) (ns : List ℕ) (s : ℕ) → s < length ns → get_or (starts_of at ns) s 0 ≡ at + sum (take s ns)
 start_is at [] s l = absurd (omega arith)

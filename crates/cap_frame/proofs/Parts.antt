@@ -1,9 +1,12 @@
 -- The bytes of some words of a segment, where the segments are one after the other.
+use Rattle.std.proofs.lemmas.List.Elements.{All-from_recursion}
+use Rattle.cap_spec.proofs.Bytes.Plain.{plain_split}
 use Rattle.cap_spec.proofs.Lemmas.{all_drop, all_take, words_exact}
-use Rattle.cap_spec.proofs.ProofNames.{Fits, List, [], ap, arith, drop, drop-drop, get_or, inl, inr, length, length-drop}
+use Rattle.cap_spec.proofs.ProofNames.{All, Fits, List, [], ap, arith, drop, drop-drop, get_or, inl, inr, length, length-drop}
 use Rattle.cap_spec.proofs.ProofNames.{length-take-le, slice_range, sum, sym, take, take-append-drop, take-take, take_all}
 use Rattle.cap_spec.proofs.ProofNames.{w8, ℕ, ◌*◌, ◌++◌, ◌+◌, ◌-◌, ◌<◌, ◌∙◌, ◌≡◌, ◌≤◌, drop-append_seam, take-append_seam}
-use Rattle.cap_spec.proofs.ProofNames.{cases_lt, drop-take, drop_all, plain_text, plain_words, rules}
+use Rattle.cap_spec.proofs.ProofNames.{cases_lt, drop-take, drop_all, AllByRecursion, plain_text, plain_words, IsWord}
+use Rattle.cap_spec.proofs.ProofNames.{rules}
 use Rattle.cap_words.proofs.Buffered.{bytes_small}
 use Rattle.cap_words.proofs.Filling.{plain_join}
 use Rattle.cap_words.proofs.WholeWords.{words_text}
@@ -47,6 +50,13 @@ part_text bs at words fits inside = search (
   all_drop (λ b. b < 256) (8 * at) bs (bytes_small bs fits),
   bytes_small bs fits,
 )
+
+-- and the words of some bytes are words
+pub part_are_words : (bs : List ℕ) (n at : ℕ) → ((i : ℕ) → Fits w8 (get_or bs i 0)) → All IsWord (plain_words (take n (drop at bs)))
+part_are_words bs n at fits =
+    let part = take n (drop at bs) in
+    let small : AllByRecursion (λ b. b < 256) part = all_take (λ b. b < 256) n (drop at bs) (all_drop (λ b. b < 256) at bs (bytes_small bs fits)) in
+    All-from_recursion IsWord (plain_words part) (plain_split part small).are_words
 
 -- some words of a segment are encoded where their start and that of the segment give
 pub part_words : (ns bs : List ℕ) (s start words : ℕ) → s < length ns → 8 * sum ns ≤ length bs → start + words ≤ length (get_or (cut ns bs) s [])

@@ -5,7 +5,7 @@ ghost use Rattle.cap_spec.specs.GreatestLimits.{most_words};
 ghost use Rattle.cap_spec.specs.Messages.{IsMessage, segment_of};
 ghost use Rattle.cap_spec.specs.Plain.{plain_text, plain_words};
 ghost use Rattle.std.proofs.Props.{props};
-ghost use Rattle.std.specs.Prelude.{◌%◌, ◌*◌, ◌+◌, ◌<◌, ◌^◌, ◌≡◌, ◌≤◌, ◌↔◌, [], ◌∷◌, IfSome, IsSome, drop, length, slice_range, sum, take, vec_len};
+ghost use Rattle.std.specs.Prelude.{◌%◌, ◌*◌, ◌+◌, ◌<◌, ◌^◌, ◌≡◌, ◌≤◌, ◌↔◌, [], ◌∷◌, All, IfSome, IsSome, drop, length, slice_range, sum, take, vec_len};
 
 use crate::segment_tables::Starts;
 use crate::segments::Segments;
@@ -128,8 +128,10 @@ impl<'b> ByteView<'b> {
         requires exists { let m = ⟦<ByteView<'b> as Segments>⟧.segments self.now in s < length m }
         requires inside { let m = ⟦<ByteView<'b> as Segments>⟧.segments self.now in
             start + words ≤ length (segment_of m s) }
-        ensures { let m = ⟦<ByteView<'b> as Segments>⟧.segments self.now in
+        ensures text { let m = ⟦<ByteView<'b> as Segments>⟧.segments self.now in
             result.now ≡ plain_text (slice_range (segment_of m s) start (start + words)) }
+        ensures words { let m = ⟦<ByteView<'b> as Segments>⟧.segments self.now in
+            All (λ word. word < 2 ^ 64) (slice_range (segment_of m s) start (start + words)) }
     {
         let at = (self.starts[s as usize] + start) as usize;
         words_at(self.bytes, at, words as usize)
@@ -154,12 +156,14 @@ impl<'b> ByteView<'b> {
     }
 }
 
-// The bytes of `words` words from word `at` on.
+/// The bytes of `words` words from word `at` on, unchanged. The caller makes sure that these bytes
+/// have them. Allocates nothing.
 #[inline(always)]
-fn words_at<'b>(bytes: &'b [u8], at: usize, words: usize) -> &'b [u8]
+pub fn words_at<'b>(bytes: &'b [u8], at: usize, words: usize) -> &'b [u8]
     requires { 8 * (at + words) ≤ length bytes.now }
     ensures part { result.now ≡ take (8 * words) (drop (8 * at) bytes.now) }
     ensures text { result.now ≡ plain_text (plain_words result.now) }
+    ensures words { All (λ word. word < 2 ^ 64) (plain_words result.now) }
 {
     &bytes[8 * at..8 * (at + words)]
 }
@@ -179,8 +183,9 @@ impl<'b> Segments for ByteView<'b> {
 
     #[inline]
     fn word(&self, s: u32, w: u32) -> u64 {
-        let at = (self.starts[s as usize] + w) as usize;
-        LittleEndian::read_u64(&self.bytes[8 * at..])
+        let at = 8 * (self.starts[s as usize] + w) as usize;
+        // A range with an end: rustc then compares the place once with the length of the bytes.
+        LittleEndian::read_u64(&self.bytes[at..at + 8])
     }
 
     #[inline]

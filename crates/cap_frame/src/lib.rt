@@ -17,7 +17,7 @@ mod skipping;
 mod table;
 mod writer;
 
-pub use byte_message::{ByteMessage, ByteView};
+pub use byte_message::{ByteMessage, ByteView, words_at};
 pub use byte_reader::{read_byte_message, read_into, read_noting};
 pub use fault::{FrameFault, FrontFault, SizeLimit};
 pub use framed::Framed;

@@ -3,7 +3,7 @@
 ghost use Rattle.cap_spec.specs.Denoting.{words_from};
 ghost use Rattle.cap_spec.specs.Messages.{HasWord, IsMessage, segment_of};
 ghost use Rattle.cap_spec.specs.Plain.{plain_text};
-ghost use Rattle.std.specs.Prelude.{◌+◌, ◌<◌, ◌≡◌, ◌≤◌, IfSome, List, length, ℕ};
+ghost use Rattle.std.specs.Prelude.{◌+◌, ◌<◌, ◌^◌, ◌≡◌, ◌≤◌, All, IfSome, List, length, ℕ};
 
 /// The segments of a message: 1 to 512 of them, each of at most 4294967295 words.
 pub trait Segments {
@@ -35,6 +35,8 @@ pub trait Segments {
             × (start + words ≤ length (segment_of (segments self.now) s))) }
         ensures bytes { IfSome result (λ bytes.
             bytes.now ≡ plain_text (words_from (segments self.now) s start words)) }
+        ensures words { IfSome result (λ _.
+            All (λ word. word < 2 ^ 64) (words_from (segments self.now) s start words)) }
     {
         None
     }

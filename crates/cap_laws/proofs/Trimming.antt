@@ -10,7 +10,7 @@ use Rattle.cap_spec.proofs.ProofNames.{cap, more, null, pointers, scalars, struc
 use Rattle.cap_spec.proofs.Canonical.TrimmedMeasures.{children_needed_le, data_needed_le, none_left}
 use Rattle.cap_spec.proofs.Canonical.TrimmedTrees.{tree_count-trim_all, trimmed_are_elements}
 use Rattle.cap_spec.proofs.Canonical.Trimming.{rest_below}
-use Rattle.cap_laws.specs.TrimmingLaws.{ExtendEach, ExtendElements, Extends, with_nulls}
+use Rattle.cap_laws.specs.TrimmingLaws.{ExtendEach, ExtendElements, Extends, nulls, with_nulls}
 
 -- a word that isn't needed is zero
 zero_word : (w : ℕ) → (if w == 0 then 0 else 1) ≤ 0 → w ≡ 0
@@ -34,7 +34,7 @@ words_cut (suc n) a (w ∷ ws) h e =
     ap (λ xs. w ∷ xs) (words_cut n a ws (rest_below (data_needed ws) (if w == 0 then 0 else 1) n h) (omega (arith, e)))
 
 -- the same of children, by what is needed of them when they are trimmed
-all_nulls : (b : ℕ) (ts : Trees) → children_needed (trim_all ts) ≤ 0 → tree_count ts ≡ b → ts ≡ with_nulls b none
+all_nulls : (b : ℕ) (ts : Trees) → children_needed (trim_all ts) ≤ 0 → tree_count ts ≡ b → ts ≡ nulls b
 all_nulls zero none h e = refl
 all_nulls (suc b) none h e = absurd (omega arith)
 all_nulls zero (more t ts) h e = absurd (omega arith)
@@ -136,9 +136,12 @@ words_needed : (a : ℕ) (ws : List ℕ) → data_needed (ws ++ replicate a 0) �
 words_needed a [] = zeros_needed a
 words_needed a (w ∷ ws) = ap (λ n. if n == 0 then (if w == 0 then 0 else 1) else suc n) (words_needed a ws)
 
+nulls_needed : (b : ℕ) → children_needed (nulls b) ≡ 0
+nulls_needed zero = refl
+nulls_needed (suc b) = ap (λ n. if n == 0 then 0 else suc n) (nulls_needed b)
+
 children_kept : (b : ℕ) (ts : Trees) → children_needed (with_nulls b ts) ≡ children_needed ts
-children_kept zero none = refl
-children_kept (suc b) none = ap (λ n. if n == 0 then 0 else suc n) (children_kept b none)
+children_kept b none = nulls_needed b
 children_kept b (more t ts) = ap (λ n. if n == 0 then (if is_null t then 0 else 1) else suc n) (children_kept b ts)
 
 -- nor do they change a prefix
@@ -147,9 +150,12 @@ prefix_kept zero b ts h = refl
 prefix_kept (suc n) b none h = absurd (omega (arith, h))
 prefix_kept (suc n) b (more t ts) h = ap (more t) (prefix_kept n b ts (omega (arith, h)))
 
+nulls_trimmed : (b : ℕ) → trim_all (nulls b) ≡ nulls b
+nulls_trimmed zero = refl
+nulls_trimmed (suc b) = ap (more null) (nulls_trimmed b)
+
 all_after : (b : ℕ) (ts : Trees) → trim_all (with_nulls b ts) ≡ with_nulls b (trim_all ts)
-all_after zero none = refl
-all_after (suc b) none = ap (more null) (all_after b none)
+all_after b none = nulls_trimmed b
 all_after b (more t ts) = ap (more (trim t)) (all_after b ts)
 
 struct_alike : (a b : ℕ) (ws : List ℕ) (ts : Trees)

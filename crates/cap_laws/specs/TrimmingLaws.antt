@@ -2,10 +2,14 @@
 use Rattle.std.specs.Prelude.{replicate, suc, zero, ℕ, ◌++◌, ◌+◌, ◌≡◌}
 use Rattle.cap_spec.specs.Tree.{Tree, Trees, cap, more, none, null, pointers, scalars, struct, structs}
 
+-- n nulls
+abbrev pub nulls : ℕ → Trees
+nulls zero = none
+nulls (suc n) = more null (nulls n)
+
 -- these trees, and n nulls after them
 abbrev pub with_nulls : ℕ → Trees → Trees
-with_nulls zero none = none
-with_nulls (suc n) none = more null (with_nulls n none)
+with_nulls n none = nulls n
 with_nulls n (more t ts) = more t (with_nulls n ts)
 
 abbrev mutual
