@@ -1,11 +1,11 @@
 -- The group before words that are in bytes, and what is written of it.
 use Rattle.cap_spec.proofs.Lemmas.{all_drop, length_plain, words_exact, front-le}
 use Rattle.cap_spec.proofs.Packed.Packing.{group_size-marked, nonzero_word, pack_text-group, zero_run-append}
-use Rattle.cap_spec.proofs.ProofNames.{List, [], ap, append-nil, append_assoc, arith, drop, drop-drop, filter, get_or}
+use Rattle.cap_spec.proofs.ProofNames.{List, [], ap, append-nil, append_assoc, arith, drop, drop-drop, filter, get_or, get_or_append_left}
 use Rattle.cap_spec.proofs.ProofNames.{length, length-append, length-drop, length-set, length-take-le, min, nat_le, ne_eqb}
 use Rattle.cap_spec.proofs.ProofNames.{not, refl, set, suc, sym, take, take-append-drop, take_at, zero, ℕ, ◌%◌, ◌*◌, ◌++◌}
 use Rattle.cap_spec.proofs.ProofNames.{◌+◌, ◌-◌, ◌/◌, ◌<◌, ◌==◌, ◌∙◌, ◌∷◌, ◌≡◌, ◌≢◌, ◌≤◌, drop_all, take_rest}
-use Rattle.cap_spec.proofs.ProofNames.{drop-put_mid, take-put_mid, AllByRecursion, little_number, put_mid, ones, full_run}
+use Rattle.cap_spec.proofs.ProofNames.{drop-put_mid, take-put_mid, AllByRecursion, little_number, put_mid, full_run}
 use Rattle.cap_spec.proofs.ProofNames.{group_size, pack_text, tag_of, zero_bytes, zero_run, plain_text}
 use Rattle.cap_spec.proofs.ProofNames.{plain_words, word_bytes, common_steps, rules}
 use Rattle.cap_words.proofs.Filling.{plain_join}
@@ -13,7 +13,6 @@ use Rattle.cap_words.proofs.WholeWords.{words_text}
 use Rattle.cap_pack.specs.GroupTexts.{front_text}
 use Rattle.cap_pack.proofs.FullWords.{full_word, word_tag, zero_word}
 use Rattle.cap_pack.proofs.PuttingEach.{word_first}
-use Rattle.cap_pack.proofs.Shuffles.{ones_of_tag}
 use Rattle.cap_pack.proofs.Written.{take-first, take-pushed}
 
 -- the word at a place
@@ -32,6 +31,30 @@ words_first bs l = search (rules, word_first)
 pub words_parted : (bs : List ℕ) (n : ℕ) → n % 8 ≡ 0 → n ≤ length bs → plain_words bs ≡ plain_words (take n bs) ++ plain_words (drop n bs)
 words_parted bs n e l =
     ap plain_words (sym (take-append-drop n bs)) ∙ plain_join (take n bs) (drop n bs) (omega (arith, e, length-take-le n bs l))
+
+-- a word of those in front
+word_in_front : (bs : List ℕ) (m k : ℕ) → k < m → 8 * m ≤ length bs → get_or (plain_words (take (8 * m) bs)) k 0 ≡ get_or (plain_words bs) k 0
+word_in_front bs m k h l =
+    let few : length (plain_words (take (8 * m) bs)) ≡ m = omega (arith, words_exact (take (8 * m) bs), length-take-le (8 * m) bs l) in
+    sym (ap (λ ws. get_or ws k 0) (words_parted bs (8 * m) (omega arith) l)
+    ∙ get_or_append_left (plain_words (take (8 * m) bs)) (plain_words (drop (8 * m) bs)) 0 k (omega (arith, h, few)))
+
+-- of m words in front, those that are left after k
+pub left_length : (bs rest : List ℕ) (m k : ℕ) → 8 * m ≤ length bs → rest ≡ drop (8 * k) (take (8 * m) bs) → length rest ≡ 8 * m - 8 * k
+left_length bs rest m k l e = omega (arith, ap length e, length-drop (8 * k) (take (8 * m) bs), length-take-le (8 * m) bs l)
+
+pub left_first : (bs rest : List ℕ) (m k : ℕ) → 8 * m ≤ length bs → rest ≡ drop (8 * k) (take (8 * m) bs) → 8 ≤ length rest →
+    get_or (plain_words rest) 0 0 ≡ get_or (plain_words bs) k 0
+left_first bs rest m k l e h =
+    let front = take (8 * m) bs in
+    let less : k < m = omega (arith, h, left_length bs rest m k l e) in
+    sym (word_placed rest 0 (omega (arith, h))) ∙ ap (little_number 8) e ∙ word_placed front k (omega (arith, less, length-take-le (8 * m) bs l))
+    ∙ word_in_front bs m k less l
+
+pub left_after : (front rest : List ℕ) (k : ℕ) → rest ≡ drop (8 * k) front → take (length rest - 8) (drop 8 rest) ≡ drop (8 * (k + 1)) front
+left_after front rest k e =
+    let next : 8 * k + 8 ≡ 8 * (k + 1) = omega arith in
+    take_rest rest 8 ∙ ap (drop 8) e ∙ drop-drop 8 (8 * k) front ∙ ap (λ n. drop n front) next
 
 -- a word and k others in front begin with the same word
 pub front_first : (bs : List ℕ) (k : ℕ) → 8 + 8 * k ≤ length bs →
@@ -193,10 +216,10 @@ marked_written bs text bytes tag m word l v h z capacity t b k =
     ∙ ap (λ (xs : List ℕ). tag ∷ xs) b ∙ ap (λ (x : ℕ). x ∷ marked) t ∙ sym is
 
 -- the bytes that its tag marks, of those that were squeezed together
-pub marked_bytes : (word tag : ℕ) (bytes lanes zeros : List ℕ) → tag ≡ tag_of (word_bytes word) →
-    lanes ≡ filter (λ b. not (b == 0)) (word_bytes word) ++ zeros → bytes ≡ take (ones tag) lanes →
+pub marked_bytes : (word n : ℕ) (bytes lanes zeros : List ℕ) → n ≡ length (filter (λ b. not (b == 0)) (word_bytes word)) →
+    lanes ≡ filter (λ b. not (b == 0)) (word_bytes word) ++ zeros → bytes ≡ take n lanes →
     bytes ≡ filter (λ b. not (b == 0)) (word_bytes word)
-marked_bytes word tag bytes lanes zeros t e b = search (rules, ones, take_at, ones_of_tag)
+marked_bytes word n bytes lanes zeros c e b = search (rules, take_at)
 
 -- which word has which tag
 pub tag_zero : (bs : List ℕ) (word tag : ℕ) → word ≡ get_or (plain_words bs) 0 0 → word < 18446744073709551616 → tag ≡ tag_of (word_bytes word) →

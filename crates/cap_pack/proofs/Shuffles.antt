@@ -151,7 +151,7 @@ marked_picked (b ∷ bs) xs ys k e h = search (rules, pick, picked, drop_next, m
 count_first : (z : Bool) (b : ℕ) (l : List ℕ) → length (cond (not z) (b ∷ l) l) ≡ cond z 0 1 + length l
 count_first x b l = search rules
 
-present_count : (bs : List ℕ) → marks (length bs) (tag_of bs) ≡ length (present bs)
+pub present_count : (bs : List ℕ) → marks (length bs) (tag_of bs) ≡ length (present bs)
 present_count [] = refl
 present_count (b ∷ bs) = search (rules, low_bit, bits_after, count_first, present, present_count bs)
 
@@ -220,8 +220,8 @@ present_or_zero [] = refl
 present_or_zero (b ∷ bs) = search (rules, present, present_or_zero bs)
 
 -- the others are zero
-pub ones_and_zeros : (w tag : ℕ) → tag ≡ word_tag w → ones tag + zero_bytes w ≡ 8
-ones_and_zeros w tag e = ap (λ n. n + zero_bytes w) (ones_of_tag w tag e) ∙ present_or_zero (word_bytes w)
+pub present_and_zeros : (w : ℕ) → length (present (word_bytes w)) + zero_bytes w ≡ 8
+present_and_zeros w = present_or_zero (word_bytes w)
 
 pub gathered : (w tag : ℕ) (out : List ℕ) → tag ≡ word_tag w → out ≡ present (word_bytes w) ++ replicate (8 - marks 8 tag) 0 →
     out ≡ present (word_bytes w) ++ replicate (8 - ones tag) 0

@@ -8,6 +8,7 @@ use Rattle.cap_spec.proofs.ProofNames.{ap₂, ◌%◌, ◌*◌, ◌+◌, ◌/◌
 use Rattle.cap_spec.proofs.Bytes.WordBytes.{bytes_fit}
 use Rattle.cap_pack.proofs.Moving.{number_of}
 use Rattle.cap_pack.proofs.Runs.{bits_after, each_below, low_bit, one_below, run, run_more, zeros_and_marks}
+use Rattle.cap_pack.proofs.Shuffles.{present, present_count}
 use Rattle.cap_pack.proofs.Tags.{tag_fits}
 
 -- the highest bit of a byte that isn't zero
@@ -84,6 +85,18 @@ word_tag_by_bits w m marked =
     let bs = word_bytes w in
     let shifted : m / 2 ^ 7 ≡ number_l 256 (map bit bs) = omega (arith, marked) in
     ap (λ x. x * 72624976668147840 % 2 ^ 64 / 2 ^ 56) (shifted ∙ ap (number_l 256) (tag_bits bs)) ∙ gathers (tag_of bs) (tag_fits w)
+
+-- another product adds them: computed for each tag
+adds : (t : ℕ) → t < 256 → number_l 256 (bits_of 8 t) * 72340172838076673 % 2 ^ 64 / 2 ^ 56 ≡ marks 8 t
+unfolding each_below
+adds t h = eqb-true _ _ (one_below (λ t. eqb (number_l 256 (bits_of 8 t) * 72340172838076673 % 2 ^ 64 / 2 ^ 56) (marks 8 t)) 256 refl t h)
+
+pub count_by_bits : (w m : ℕ) → m ≡ 128 * number_l 256 (map bit (word_bytes w)) →
+    m / 2 ^ 7 * 72340172838076673 % 2 ^ 64 / 2 ^ 56 ≡ length (present (word_bytes w))
+count_by_bits w m marked =
+    let bs = word_bytes w in
+    let shifted : m / 2 ^ 7 ≡ number_l 256 (map bit bs) = omega (arith, marked) in
+    ap (λ x. x * 72340172838076673 % 2 ^ 64 / 2 ^ 56) (shifted ∙ ap (number_l 256) (tag_bits bs)) ∙ adds (tag_of bs) (tag_fits w) ∙ present_count bs
 
 -- a bit for each byte that is zero
 abbrev gap_bits : ℕ → ℕ

@@ -6,7 +6,7 @@ ghost use Rattle.cap_spec.specs.Packing.{full_run, group_size, pack_text, zero_r
 ghost use Rattle.cap_spec.specs.Plain.{plain_words};
 ghost use Rattle.std.specs.Prelude.{◌%◌, ◌*◌, ◌+◌, ◌++◌, ◌<◌, ◌≡◌, ◌≤◌, drop, get_or, length, min, take};
 
-use super::lanes::{count_zeros, squeezed, tag_of_word};
+use super::lanes::{count_present, count_zeros, squeezed, tag_of_word};
 use byteorder::{ByteOrder, LittleEndian};
 use cap_words::bytes_of;
 
@@ -62,6 +62,7 @@ fn write_text(bytes: &[u8], text: &mut [u8])
 }
 
 /// How many bytes the words of the group in front have, and how many bytes encode them.
+#[inline(always)]
 pub(crate) fn front_group(bytes: &[u8]) -> (usize, usize)
     requires { 8 ≤ length bytes.now }
     ensures size { result.0 ≡ 8 * group_size (plain_words bytes.now) }
@@ -69,14 +70,15 @@ pub(crate) fn front_group(bytes: &[u8]) -> (usize, usize)
     ensures encoded { result.1 ≡ length (front_text (plain_words (take result.0 bytes.now))) }
     ensures few { 4 * result.1 ≤ 5 * result.0 }
 {
-    let tag = tag_of_word(word_at(bytes, 0));
+    let word = word_at(bytes, 0);
+    let tag = tag_of_word(word);
     match tag {
         0 => (8 + 8 * zero_words(&bytes[8..]), 2),
         255 => {
             let more = full_words(&bytes[8..]);
             (8 + 8 * more, 10 + 8 * more)
         }
-        _ => (8, 1 + tag.count_ones() as usize),
+        _ => (8, 1 + count_present(word) as usize),
     }
 }
 
@@ -94,8 +96,11 @@ fn zero_words(bytes: &[u8]) -> usize
     ensures { result ≡ min 255 (zero_run (plain_words bytes.now)) }
 {
     let most = (bytes.len() / 8).min(255);
+    // By the length of the rest rustc sees that the next word is there.
+    let mut rest = &bytes[..8 * most];
     let mut count = 0;
-    while count < most && word_at(bytes, count) == 0 {
+    'words: while rest.len() >= 8 && word_at(rest, 0) == 0 {
+        rest = &rest[8..];
         count += 1;
     }
     count
@@ -106,14 +111,17 @@ fn full_words(bytes: &[u8]) -> usize
     ensures { result ≡ min 255 (full_run (plain_words bytes.now)) }
 {
     let most = (bytes.len() / 8).min(255);
+    let mut rest = &bytes[..8 * most];
     let mut count = 0;
-    while count < most && count_zeros(word_at(bytes, count)) <= 1 {
+    'words: while rest.len() >= 8 && count_zeros(word_at(rest, 0)) <= 1 {
+        rest = &rest[8..];
         count += 1;
     }
     count
 }
 
 /// Writes the group that encodes just these words.
+#[inline(always)]
 pub(crate) fn write_group(bytes: &[u8], text: &mut [u8])
     requires words { (8 ≤ length bytes.now) × (length bytes.now ≤ 2048) × (length bytes.now % 8 ≡ 0) }
     requires fits { length text.old ≡ length (front_text (plain_words bytes.now)) }
@@ -130,7 +138,7 @@ pub(crate) fn write_group(bytes: &[u8], text: &mut [u8])
             text[10..].copy_from_slice(&bytes[8..]);
         }
         _ => {
-            let count = tag.count_ones() as usize;
+            let count = count_present(word) as usize;
             text[1..].copy_from_slice(&squeezed(tag, word)[..count]);
         }
     }

@@ -11,14 +11,14 @@ pub mod vectors;
 // portable vectors.
 pub use vectors::scatter;
 use vectors::{fulls_of_eights, tags_of_eights, zeros_of_eights};
-pub(crate) use vectors::{squeezed, tag_of_word};
+pub(crate) use vectors::{count_present, squeezed, tag_of_word};
 
 /// How many of a word's bytes are zero.
 #[inline(always)]
 pub(crate) fn count_zeros(word: u64) -> u32
     ensures { result ≡ zero_bytes word }
 {
-    8 - tag_of_word(word).count_ones()
+    8 - count_present(word)
 }
 
 /// The tag of each word, as in a packed group: bit `i` of `out[k]` is set exactly if byte `i` of

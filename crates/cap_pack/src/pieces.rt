@@ -6,7 +6,7 @@ ghost use Rattle.cap_spec.specs.Plain.{plain_words, word_bytes};
 ghost use Rattle.std.specs.Prelude.{◌*◌, ◌+◌, ◌++◌, ◌<◌, ◌==◌, ◌≡◌, ◌≤◌, ◌∷◌, List, drop, filter, length, not, take, ℕ};
 
 use super::encoding::{BUFFER_BYTES, encode_plain, encode_zeros};
-use super::lanes::{full_run, squeezed, tag_of_word, zero_run};
+use super::lanes::{count_present, full_run, squeezed, tag_of_word, zero_run};
 use byteorder::{ByteOrder, LittleEndian};
 
 /// The most words of a piece.
@@ -45,7 +45,7 @@ fn encode_marked(text: &mut [u8; BUFFER_BYTES], len: usize, tag: u8, word: u64) 
 {
     text[len] = tag;
     text[len + 1..len + 9].copy_from_slice(&squeezed(tag, word));
-    len + 1 + tag.count_ones() as usize
+    len + 1 + count_present(word) as usize
 }
 
 /// Encodes the groups of a piece of words after the first `start` bytes, but for a run at the end,

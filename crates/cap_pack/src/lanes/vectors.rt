@@ -59,6 +59,15 @@ pub(crate) fn tag_of_word(word: u64) -> u8
     present.to_bitmask() as u8
 }
 
+/// How many of a word's bytes aren't zero.
+#[inline(always)]
+pub(crate) fn count_present(word: u64) -> u32
+    ensures few { result ≤ 8 }
+    ensures count { result ≡ length (filter (λ b. not (b == 0)) (word_bytes word)) }
+{
+    tag_of_word(word).count_ones()
+}
+
 // How many of eight lanes come before the first that is marked.
 #[inline(always)]
 fn before_first(marked: u64) -> usize

@@ -1,56 +1,53 @@
 -- The group in front, by the tag of its first word.
 use Rattle.cap_spec.proofs.ProofNames.{ap, arith, filter, length, not, ◌==◌, ◌∙◌, ◌≢◌, take_rest, zero_bytes, word_bytes}
 use Rattle.cap_pack.proofs.GroupTexts.{full_front, marked_front, tag_full, tag_other, tag_zero, zeros_front}
-use Rattle.cap_pack.proofs.Shuffles.{ones_of_tag}
 use Rattle.cap_pack.proofs.buffers.front_group.Goals as goal
 
 pub returns-in-0-clause-size : goal.returns-in-0-clause-size
 returns-in-0-clause-size c =
-    let zero = tag_zero c.args.bytes.now c.word_at.result c.tag_of_word-tag.result c.word_at.ensures (omega (arith, c.word_at.type_inv))
+    let zero = tag_zero c.args.bytes.now c.word_at-word.result c.tag_of_word-tag.result c.word_at-word.ensures (omega (arith, c.word_at-word.type_inv))
     c.tag_of_word-tag.ensures c.in-0.is in
     (zeros_front c.args.bytes.now _ c.zero_words.result c.requires (take_rest c.args.bytes.now 8) zero c.zero_words.ensures).size
 
 pub returns-in-0-clause-within : goal.returns-in-0-clause-within
 returns-in-0-clause-within c =
-    let zero = tag_zero c.args.bytes.now c.word_at.result c.tag_of_word-tag.result c.word_at.ensures (omega (arith, c.word_at.type_inv))
+    let zero = tag_zero c.args.bytes.now c.word_at-word.result c.tag_of_word-tag.result c.word_at-word.ensures (omega (arith, c.word_at-word.type_inv))
     c.tag_of_word-tag.ensures c.in-0.is in
     let front = zeros_front c.args.bytes.now _ c.zero_words.result c.requires (take_rest c.args.bytes.now 8) zero c.zero_words.ensures in
     (omega arith, omega (arith, front.most), front.within)
 
 pub returns-in-0-clause-encoded : goal.returns-in-0-clause-encoded
 returns-in-0-clause-encoded c =
-    let zero = tag_zero c.args.bytes.now c.word_at.result c.tag_of_word-tag.result c.word_at.ensures (omega (arith, c.word_at.type_inv))
+    let zero = tag_zero c.args.bytes.now c.word_at-word.result c.tag_of_word-tag.result c.word_at-word.ensures (omega (arith, c.word_at-word.type_inv))
     c.tag_of_word-tag.ensures c.in-0.is in
     (zeros_front c.args.bytes.now _ c.zero_words.result c.requires (take_rest c.args.bytes.now 8) zero c.zero_words.ensures).text
 
 pub returns-in-255-clause-size : goal.returns-in-255-clause-size
 returns-in-255-clause-size c =
-    let full = tag_full c.args.bytes.now c.word_at.result c.tag_of_word-tag.result c.word_at.ensures c.tag_of_word-tag.ensures c.in-255.is in
+    let full = tag_full c.args.bytes.now c.word_at-word.result c.tag_of_word-tag.result c.word_at-word.ensures c.tag_of_word-tag.ensures c.in-255.is in
     (full_front c.args.bytes.now _ c.full_words-more.result c.requires (take_rest c.args.bytes.now 8) full c.full_words-more.ensures).size
 
 pub returns-in-255-clause-within : goal.returns-in-255-clause-within
 returns-in-255-clause-within c =
-    let full = tag_full c.args.bytes.now c.word_at.result c.tag_of_word-tag.result c.word_at.ensures c.tag_of_word-tag.ensures c.in-255.is in
+    let full = tag_full c.args.bytes.now c.word_at-word.result c.tag_of_word-tag.result c.word_at-word.ensures c.tag_of_word-tag.ensures c.in-255.is in
     let front = full_front c.args.bytes.now _ c.full_words-more.result c.requires (take_rest c.args.bytes.now 8) full c.full_words-more.ensures in
     (omega arith, omega (arith, front.most), front.within)
 
 pub returns-in-255-clause-encoded : goal.returns-in-255-clause-encoded
 returns-in-255-clause-encoded c =
-    let full = tag_full c.args.bytes.now c.word_at.result c.tag_of_word-tag.result c.word_at.ensures c.tag_of_word-tag.ensures c.in-255.is in
+    let full = tag_full c.args.bytes.now c.word_at-word.result c.tag_of_word-tag.result c.word_at-word.ensures c.tag_of_word-tag.ensures c.in-255.is in
     (full_front c.args.bytes.now _ c.full_words-more.result c.requires (take_rest c.args.bytes.now 8) full c.full_words-more.ensures).text
 
 pub returns-in_default-clause-size : goal.returns-in_default-clause-size
 returns-in_default-clause-size c =
-    let other : (c.word_at.result ≢ 0)
-    × (zero_bytes c.word_at.result ≢ 0) = tag_other c.word_at.result c.tag_of_word-tag.result c.tag_of_word-tag.ensures (omega arith) (omega arith) in
-    let count = ones_of_tag c.word_at.result c.tag_of_word-tag.result c.tag_of_word-tag.ensures
-    ∙ ap (λ w. length (filter (λ b. not (b == 0)) (word_bytes w))) c.word_at.ensures in
-    (marked_front c.args.bytes.now _ c.requires (λ e. other.0 (c.word_at.ensures ∙ e)) (λ z. other.1 (ap zero_bytes c.word_at.ensures ∙ z)) count).size
+    let other : (c.word_at-word.result ≢ 0)
+    × (zero_bytes c.word_at-word.result ≢ 0) = tag_other c.word_at-word.result c.tag_of_word-tag.result c.tag_of_word-tag.ensures (omega arith) (omega arith) in
+    let count = c.count_present.ensures.count ∙ ap (λ w. length (filter (λ b. not (b == 0)) (word_bytes w))) c.word_at-word.ensures in
+    (marked_front c.args.bytes.now _ c.requires (λ e. other.0 (c.word_at-word.ensures ∙ e)) (λ z. other.1 (ap zero_bytes c.word_at-word.ensures ∙ z)) count).size
 
 pub returns-in_default-clause-encoded : goal.returns-in_default-clause-encoded
 returns-in_default-clause-encoded c =
-    let other : (c.word_at.result ≢ 0)
-    × (zero_bytes c.word_at.result ≢ 0) = tag_other c.word_at.result c.tag_of_word-tag.result c.tag_of_word-tag.ensures (omega arith) (omega arith) in
-    let count = ones_of_tag c.word_at.result c.tag_of_word-tag.result c.tag_of_word-tag.ensures
-    ∙ ap (λ w. length (filter (λ b. not (b == 0)) (word_bytes w))) c.word_at.ensures in
-    (marked_front c.args.bytes.now _ c.requires (λ e. other.0 (c.word_at.ensures ∙ e)) (λ z. other.1 (ap zero_bytes c.word_at.ensures ∙ z)) count).text
+    let other : (c.word_at-word.result ≢ 0)
+    × (zero_bytes c.word_at-word.result ≢ 0) = tag_other c.word_at-word.result c.tag_of_word-tag.result c.tag_of_word-tag.ensures (omega arith) (omega arith) in
+    let count = c.count_present.ensures.count ∙ ap (λ w. length (filter (λ b. not (b == 0)) (word_bytes w))) c.word_at-word.ensures in
+    (marked_front c.args.bytes.now _ c.requires (λ e. other.0 (c.word_at-word.ensures ∙ e)) (λ z. other.1 (ap zero_bytes c.word_at-word.ensures ∙ z)) count).text

@@ -17,7 +17,7 @@ pub copy_from_slice-requires-in_default : goal.copy_from_slice-requires-in_defau
 copy_from_slice-requires-in_default c =
     let other : (c.word_at-word.result ≢ 0) × (zero_bytes c.word_at-word.result ≢ 0) =
     tag_other c.word_at-word.result c.tag_of_word-tag.result c.tag_of_word-tag.ensures (omega arith) (omega arith) in
-    let bytes = marked_bytes c.word_at-word.result c.tag_of_word-tag.result _ c.squeezed.result _ c.tag_of_word-tag.ensures c.squeezed.ensures refl in
+    let bytes = marked_bytes c.word_at-word.result c.count_present-count.result _ c.squeezed.result _ c.count_present-count.ensures.count c.squeezed.ensures refl in
     marked_capacity c.args.bytes.now c.args.text.now _ c.tag_of_word-tag.result c.word_at-word.result c.requires.words.0 c.word_at-word.ensures other.0
     other.1 c.requires.fits bytes
 
@@ -39,7 +39,7 @@ pub returns-in_default : goal.returns-in_default
 returns-in_default c =
     let other : (c.word_at-word.result ≢ 0) × (zero_bytes c.word_at-word.result ≢ 0) =
     tag_other c.word_at-word.result c.tag_of_word-tag.result c.tag_of_word-tag.ensures (omega arith) (omega arith) in
-    let bytes = marked_bytes c.word_at-word.result c.tag_of_word-tag.result _ c.squeezed.result _ c.tag_of_word-tag.ensures c.squeezed.ensures
+    let bytes = marked_bytes c.word_at-word.result c.count_present-count.result _ c.squeezed.result _ c.count_present-count.ensures.count c.squeezed.ensures
     c.copy_from_slice-in_default.ensures.after in
     marked_written c.args.bytes.now c.args.text.now _ c.tag_of_word-tag.result _ c.word_at-word.result c.requires.words.0 c.word_at-word.ensures
     other.0 other.1 c.requires.fits c.tag_of_word-tag.ensures bytes refl

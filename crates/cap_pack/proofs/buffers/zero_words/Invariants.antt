@@ -1,12 +1,13 @@
-use Rattle.cap_spec.proofs.ProofNames.{length, min, ◌-◌, ◌/◌, ◌≡◌, ◌≤◌, zero_run, plain_words}
+use Rattle.cap_spec.proofs.ProofNames.{drop, length, min, take, ◌*◌, ◌/◌, ◌≡◌, ◌≤◌, zero_run, plain_words}
 use Rattle.cap_pack.proofs.buffers.zero_words.Given as goal
 
-abbrev pub invariant-loop-count : goal.invariant-loop-count
-invariant-loop-count l = record {
+abbrev pub invariant-words : goal.invariant-words
+invariant-words l = record {
   most : l.most ≡ min (length l.bytes / 8) 255;
   within : l.count ≤ l.most;
+  left : l.rest ≡ drop (8 * l.count) (take (8 * l.most) l.bytes);
   run : l.count ≤ zero_run (plain_words l.bytes);
 }
 
-abbrev pub decreases-loop-count : goal.decreases-loop-count
-decreases-loop-count l = l.most - l.count
+abbrev pub decreases-words : goal.decreases-words
+decreases-words l = length l.rest
