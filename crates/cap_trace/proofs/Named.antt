@@ -13,7 +13,7 @@ use Rattle.cap_trace.proofs.Numbering.{one_numbered}
 use Rattle.cap_trace.proofs.Traceable.{fault_traceable, lax_traceable}
 
 -- There is no path of number 0.
-none_traced : (m : List (List ℕ)) (depth n : ℕ) (path : Option (List Step)) → n ≡ 0 → IsTraced m depth n path → path ≡ None
+pub none_traced : (m : List (List ℕ)) (depth n : ℕ) (path : Option (List Step)) → n ≡ 0 → IsTraced m depth n path → path ≡ None
 none_traced m depth n None z t = refl
 none_traced m depth n (Some path) z t = absurd (omega (arith, z, some_number m n path t.segment t.at t.numbered))
 

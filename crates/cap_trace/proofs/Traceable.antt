@@ -4,7 +4,7 @@ use Rattle.cap_spec.proofs.Lemmas.{Before-irreflexive, one_reached, kept_before,
 use Rattle.cap_spec.proofs.Lemmas.{paths_within_depth, reached_not_wrong}
 use Rattle.cap_spec.proofs.ProofNames.{List, None, Option, Some, [], ap, arith, inl, inr, length, subst, sym, ℕ, ◌∙◌}
 use Rattle.cap_spec.proofs.ProofNames.{◌∷◌, ◌≡◌, ◌⊎◌, IsWithin, IsFirstFault, Wrong, IsOneOf, IsFirstOverlap, Before}
-use Rattle.cap_spec.proofs.ProofNames.{Reaches, IsFirstLax, CostOf}
+use Rattle.cap_spec.proofs.ProofNames.{Reaches, IsFirstLax, CostOf, IsNumbered}
 use Rattle.cap_spec.proofs.Verdicts.OneFault.{costs_not_wrong}
 use Rattle.cap_trace.specs.PointerNumbers.{IsPassable}
 use Rattle.cap_trace.specs.TraceNames.{Lax, Refusal, Step, IsPut, IsTraceable, GivesPath, ReportsPath}
@@ -43,30 +43,29 @@ fault_traceable m words depth r f = record {
     before q b (inr i) = i
 
 -- All paths of an accepted message are passable.
-accepted_passable : (m : List (List ℕ)) (words depth : ℕ) → IsWithin m words depth → (q : List Step) → IsPassable m depth q
+pub accepted_passable : (m : List (List ℕ)) (words depth : ℕ) → IsWithin m words depth → (q : List Step) → IsPassable m depth q
 accepted_passable m words depth (t, c, d, a) q = λ level s w r. (
   (λ v wrong. reached_not_wrong m t c d a.denotes q level s w v r wrong),
   (λ (k, t', b, x, tag, f, tagged, past).
       omega (arith, paths_within_depth m t c d a.denotes q level s w k t' b x tag r f tagged, a.few_levels, past)),
 )
 
-pub lax_traceable : (m : List (List ℕ)) (words depth s w : ℕ) (what : Lax) (n : ℕ) → IsWithin m words depth
-    → (f : IsFirstLax m s w what n) → IsTraceable m depth n f.path
-lax_traceable m words depth s w what n a f = record {
+pub accepted_traceable : (m : List (List ℕ)) (words depth s w n : ℕ) (path : List Step) → IsWithin m words depth
+    → IsNumbered m path s w n → IsTraceable m depth n path
+accepted_traceable m words depth s w n path a numbered = record {
   segment = s;
   at = w;
-  numbered = f.numbered;
+  numbered = numbered;
   passable = λ q b. accepted_passable m words depth a q;
 }
 
+pub lax_traceable : (m : List (List ℕ)) (words depth s w : ℕ) (what : Lax) (n : ℕ) → IsWithin m words depth
+    → (f : IsFirstLax m s w what n) → IsTraceable m depth n f.path
+lax_traceable m words depth s w what n a f = accepted_traceable m words depth s w n f.path a f.numbered
+
 pub overlap_traceable : (m : List (List ℕ)) (words depth s w n : ℕ) → IsWithin m words depth
     → (f : IsFirstOverlap m s w n) → IsTraceable m depth n f.path
-overlap_traceable m words depth s w n a f = record {
-  segment = s;
-  at = w;
-  numbered = f.numbered;
-  passable = λ q b. accepted_passable m words depth a q;
-}
+overlap_traceable m words depth s w n a f = accepted_traceable m words depth s w n f.path a f.numbered
 
 -- What is written is the traceable path of its number.
 pub gives_traceable : {S : Type 0} (slot : Step → S) (m : List (List ℕ)) (depth n : ℕ) (path : List Step) (old : List S)

@@ -11,6 +11,7 @@ mod Objects
 mod Turning
 mod Stacks
 mod Passing
+mod NullRows
 mod Verdicts
 mod ObjectRuns
 mod Looks

@@ -1,5 +1,5 @@
 -- Null words in a row, which a walk goes past.
-use Rattle.cap_spec.proofs.ProofNames.{List, Some, [], ap, append-nil, arith, length, length-append, refl, subst, suc}
+use Rattle.cap_spec.proofs.ProofNames.{List, Some, [], ap, append-nil, arith, length, length-append, refl, subst, suc, sym}
 use Rattle.cap_spec.proofs.ProofNames.{zero, ℕ, ◌++◌, ◌+◌, ◌-◌, ◌<◌, ◌∷◌, ◌≡◌, ◌≤◌, length-map, reverse-append, near}
 use Rattle.cap_spec.proofs.ProofNames.{HasWord, rules}
 use Rattle.cap_vet.specs.VetNames.{Step, IsLooked, Passes, IsRest, RunIn, row_places, Ahead, added, HasWalked}
@@ -52,6 +52,29 @@ passes_on m words depth runs seen old f before r left null passed =
       walks = subst (λ u. HasWalked m words depth (runs ++ onward f 1 ∷ []) (counted r 1) (next.a.path ∷ u) later) same_seen walks;
       less = omega (arith, passed.less, smaller);
     }
+
+-- nothing is passed yet
+onward_none : (f : PointerRun) → onward f 0 ≡ f
+onward_none f =
+    let at : f.at + 0 ≡ f.at = omega arith in
+    let left : f.left - 0 ≡ f.left = omega arith in rw (at, left) refl
+
+counted_none : (r : Report) → counted r 0 ≡ r
+counted_none r = let pointers : r.pointers + 0 ≡ r.pointers = omega arith in rw pointers refl
+
+-- several null words in a row are one turn each
+pub passes_each : (m : List (List ℕ)) (words depth : ℕ) (runs : List PointerRun) (seen : List (List Step)) (f : PointerRun) (r : Report) (ahead : List Ahead) (n : ℕ)
+    → n < f.left → ((k : ℕ) → k < n → HasWord m f.segment (f.at + k) 0)
+    → HasWalked m words depth (runs ++ f ∷ []) r seen ahead → Passes m words depth runs seen f r (onward f n) (counted r n)
+passes_each m words depth runs seen f r ahead zero lt null w =
+    subst (λ g. Passes m words depth runs seen f r g (counted r 0)) (sym (onward_none f))
+    (subst (λ u. Passes m words depth runs seen f r f u) (sym (counted_none r)) (passes_none m words depth runs seen f r ahead w))
+passes_each m words depth runs seen f r ahead (suc n) lt null w =
+    let e : n + 1 ≡ suc n = omega arith in
+    let before = passes_each m words depth runs seen f r ahead n (omega (arith, lt)) (λ k less. null k (omega (arith, less))) w in
+    let left : 1 < f.left - n = omega (arith, lt) in
+    subst (λ i. Passes m words depth runs seen f r (onward f i) (counted r i)) e
+    (rw (← onward_more f n, ← counted_more r n) (passes_on m words depth runs seen f (onward f n) r (counted r n) left (null n (omega arith)) before))
 
 -- the topmost run of a walk lies inside its segment
 pub topmost_in : (m : List (List ℕ)) (words depth : ℕ) (runs : List PointerRun) (f : PointerRun) (r : Report) (seen : List (List Step)) (ahead : List Ahead)

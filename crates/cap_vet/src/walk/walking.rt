@@ -13,6 +13,7 @@ ghost use Rattle.std.specs.Prelude.{◌++◌, ◌<◌, ◌≡◌, ◌≤◌, [],
 
 use crate::limits::Limits;
 use crate::walk::looking::{Looked, look_described};
+use crate::walk::nulls::nulls;
 use crate::walk::pointer_run::PointerRun;
 use crate::walk::turn::{Stopped, Turn, add, visit};
 use crate::walk::vetting::Report;
@@ -306,12 +307,7 @@ fn pass_nulls<M: Segments>(message: &M, run: &mut PointerRun, report: &mut Repor
     if run.left < 2 || message.word(run.segment, run.at) != 0 {
         return;
     }
-    let (segment, at, most) = (run.segment, run.at, run.left - 1);
-    // One number counts in the loop, so that a null word takes few instructions.
-    let mut passed = 1;
-    'nulls: while passed < most && message.word(segment, at + passed) == 0 {
-        passed += 1;
-    }
+    let passed = nulls(message, run.segment, run.at, run.left - 1);
     // The count stays below the charge, a number of 64 bits.
     let _charge = report.charge;
     run.at += passed;
