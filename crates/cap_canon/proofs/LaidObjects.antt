@@ -1,6 +1,6 @@
 -- When the words of a message are those that a copy has, one object at a time.
 use Rattle.cap_spec.proofs.Lemmas.{all_append, lie_back, list_fields, struct_fields, one_word, range_length}
-use Rattle.cap_spec.proofs.ProofNames.{List, [], arith, length, subst, suc, sym, zero, ℕ, ◌*◌, ◌++◌, ◌+◌, ◌-◌, ◌<◌, ◌^◌}
+use Rattle.cap_spec.proofs.ProofNames.{All, List, [], arith, get_or, length, slice_get-get_or, subst, suc, sym, zero, ℕ, ◌*◌, ◌++◌, ◌+◌, ◌-◌, ◌<◌, ◌^◌}
 use Rattle.cap_spec.proofs.ProofNames.{◌∷◌, ◌≡◌, ◌≤◌, eqb_tells, nil_from_length, length-map-range_with_len, mul-le}
 use Rattle.cap_spec.proofs.ProofNames.{AllByRecursion, list_word, pointer_to, struct_word, Finds, values_of, words_from}
 use Rattle.cap_spec.proofs.ProofNames.{HasWord, segment_of, HasWordsAt, list_size, list_words, scalar_words, Tree}
@@ -12,7 +12,7 @@ use Rattle.cap_canon.specs.Values.{used_bits}
 use Rattle.cap_canon.specs.declared.objects.Part.{Part}
 use Rattle.cap_canon.proofs.Filling.{scalars_size}
 use Rattle.cap_canon.proofs.InPlace.{near_start}
-use Rattle.cap_canon.proofs.Ranges.{range_more, range_lies, values_laid}
+use Rattle.cap_canon.proofs.Ranges.{range_more, range_lies, range_word, values_laid}
 use Rattle.cap_canon.specs.declared.objects.Object.TheVariants as object
 
 -- the words of a range that were read are words
@@ -24,6 +24,16 @@ range_words m t b (suc n) h =
     subst (λ k. AllByRecursion IsWord (words_from m t b k)) e
     (subst (λ (xs : List ℕ). AllByRecursion IsWord xs) (sym (range_more m t b n x.0 x.1))
     (all_append IsWord (words_from m t b n) (x.0 ∷ []) (range_words m t b n (λ k lt. h k (omega (arith, lt)))) (x.2, tt)))
+
+-- and the words of a range of words are there, and are words
+pub range_reads : (m : List (List ℕ)) (t b n : ℕ) → b + n ≤ length (segment_of m t) → All IsWord (words_from m t b n)
+    → (k : ℕ) → k < n → (x : ℕ) × HasWord m t (b + k) x × IsWord x
+range_reads m t b n inside are k lt =
+    let many : k < length (words_from m t b n) = omega (arith, range_length m t b n inside, lt) in (
+      get_or (segment_of m t) (b + k) 0,
+      slice_get-get_or (segment_of m t) (b + k) 0 (omega (arith, inside, lt)),
+      subst IsWord (range_word m t b n k lt) (are k 0 many),
+    )
 
 -- a list of values is there where the last word has no bits after the last value
 pub values_lie : (m : List (List ℕ)) (t b c n before x : ℕ) → c < 6 → list_words c n ≡ before + 1 → b + before < length (segment_of m t)

@@ -10,25 +10,27 @@ mod Entering
 mod Filling
 pub mod FirstWords
 mod Found
-mod InOrder
-mod InOrderLists
+pub mod InOrder
+pub mod InOrderLists
 mod InPlace
 mod LaidSteps
 mod Laying
 mod Lengths
-mod Needed
+pub mod Needed
 mod FarWords
-mod NoCopies
-mod OtherWords
+pub mod NoCopies
+mod NullRuns
+pub mod OtherWords
 pub mod Overs
 mod Owing
 mod PointerForms
 mod Ranges
-mod Rests
+pub mod Rests
 mod Runs
-mod LaidObjects
+pub mod LaidObjects
 mod Structs
 mod Trimmed
 mod Walks
 mod Whole
-mod WholeObjects
+pub mod WholeObjects
+mod ZerosPut

@@ -6,9 +6,10 @@ use Rattle.cap_spec.proofs.Lemmas.{lie_inside, length-content, Fits, HasWord-ins
 use Rattle.cap_spec.proofs.ProofNames.{common_steps, List, Option, [], arith, length, option_to_list, refl, subst, sym}
 use Rattle.cap_spec.proofs.ProofNames.{ℕ, ◌++◌, ◌+◌, ◌-◌, ◌<◌, ◌∷◌, ◌≡◌, ◌≤◌, layout, trim, Denotes, IsMessage}
 use Rattle.cap_spec.proofs.ProofNames.{segment_of, Tree, rules}
+use Rattle.cap_canon.specs.AtRuns.{AtRun, AtTurn}
 use Rattle.cap_canon.specs.CopyTurns.{IsTurn}
-use Rattle.cap_canon.specs.CanonNames.{AreShort, IsFull, IsRest, first_place, place, places_of, root_run, Due, Laid}
-use Rattle.cap_canon.specs.CanonNames.{below, own_size, IsObject, HasTree, IsNext, IsWalking, NextLeadsTo, Object}
+use Rattle.cap_canon.specs.CanonNames.{IsRest, first_place, place, root_run, Due, Laid}
+use Rattle.cap_canon.specs.CanonNames.{below, own_size, IsObject, HasTree, IsWalking, NextLeadsTo, Object}
 use Rattle.cap_canon.specs.CanonNames.{CopyRun, PointerPlace}
 use Rattle.cap_canon.specs.StillToLay.{IsOwed}
 use Rattle.cap_canon.proofs.LaidSteps.{object_laid}
@@ -28,18 +29,6 @@ root_fits m t c d h = owed_fits m d 0 0 0 (trim t) (t, c, d, h, refl, omega arit
 -- there is a root word
 pub root_inside : (m : List (List ℕ)) (t : Tree) (c d : ℕ) → Denotes m 0 0 t c d → 1 ≤ length (segment_of m 0)
 root_inside m t c d h = grind (arith, common_steps, formed, lead_word, HasWord-inside)
-
--- A walk at the word at p, with a state that fits what is due.
-pub record AtTurn (m : List (List ℕ)) (state : List (List ℕ) → Tree → ℕ → List Due → Type 0) (depth : ℕ) (runs : List CopyRun)
-    (p : PointerPlace) (end : ℕ) : Type 0 where
-  pub root : Tree
-  pub charge : ℕ
-  pub denotes : Denotes m 0 0 root charge depth
-  pub tree : Tree
-  pub due : List Due
-  pub next : IsNext m depth p runs end tree due
-  pub laid : Laid (layout (trim root)) end (record { slot = p.slot; tree = tree } ∷ due)
-  pub so_far : state m (trim root) end (record { slot = p.slot; tree = tree } ∷ due)
 
 -- at the root
 first_turn : (m : List (List ℕ)) (state : List (List ℕ) → Tree → ℕ → List Due → Type 0) (depth : ℕ) → IsMessage m → (k : HasTree m depth)
@@ -93,13 +82,6 @@ pub last_turn : {m : List (List ℕ)} (before state : List (List ℕ) → Tree �
 last_turn {m} before state {depth} {runs} {p} {end} {now} k e w so_far t c d h =
     let same = one_tree m 0 0 k.root t k.charge depth c d k.denotes h in
     search (rules, same, turn_laid m before depth runs p end now k e)
-
--- A walk at the first word of a run, with other runs on the stack.
-pub record AtRun (m : List (List ℕ)) (state : List (List ℕ) → Tree → ℕ → List Due → Type 0) (depth : ℕ) (runs : List CopyRun)
-    (run : CopyRun) (end : ℕ) : Type 0 where
-  pub full : IsFull run
-  pub short : AreShort (places_of run)
-  pub turn : (rest : Option CopyRun) → IsRest run rest → AtTurn m state depth (runs ++ option_to_list rest) (first_place run) end
 
 -- at the root
 pub first_run : (m : List (List ℕ)) (state : List (List ℕ) → Tree → ℕ → List Due → Type 0) (depth : ℕ) → IsMessage m → (k : HasTree m depth)

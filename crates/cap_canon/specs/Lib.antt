@@ -1,3 +1,4 @@
+pub mod AtRuns
 pub mod Checked
 pub mod CopyOvers
 pub mod CopyBuffers
@@ -10,10 +11,12 @@ pub mod InOrder
 pub mod InPlace
 pub mod Kept
 pub mod Laying
+pub mod NullTurns
 pub mod NullsInOrder
 pub mod Objects
 pub mod Roots
 pub mod StillToLay
 pub mod Trimming
 pub mod Values
+pub mod Zeros
 pub mod CanonNames

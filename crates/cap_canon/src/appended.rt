@@ -8,9 +8,8 @@ ghost use Rattle.std.specs.Prelude.{[], ◌*◌, ◌%◌, ◌≡◌, ◌≤◌, 
 ghost use Rattle.std.specs.Vec.{vec_capacity};
 
 use crate::copying::copy_into;
-use crate::objects::read_range;
 use crate::output::CopyOutput;
-use crate::word_bytes::write_word;
+use crate::word_bytes::{write_word, write_zeros};
 use cap_frame::Segments;
 use cap_words::bytes_of;
 use std::alloc::{AllocError, Global};
@@ -73,10 +72,15 @@ impl CopyOutput for AppendedWords {
         write_word(self.bytes.as_mut_slice(), place as usize, word);
     }
 
+    // Inlined, since a walk calls it for a few words at a time.
+    #[inline(always)]
+    fn set_zeros(&mut self, place: u32, count: u32) {
+        write_zeros(self.bytes.as_mut_slice(), place as usize, count as usize);
+    }
+
     // Inlined, since a copy calls it at nearly every object.
     #[inline(always)]
     fn append_from<M: Segments>(&mut self, message: &M, segment: u32, start: u32, count: u32) {
-        read_range(message, segment, start, count);
         match message.bytes_at(segment, start, count) {
             // within the capacity, so that nothing grows
             Some(row) => self.bytes.extend_from_slice(row).unwrap(),

@@ -66,4 +66,7 @@ impl Pass for Counting {
         _place: PointerPlace,
         _end: u32,
     ) {}
+
+    #[inline(always)]
+    fn visit_nulls(&mut self, _slot: u32, _count: u32) {}
 }

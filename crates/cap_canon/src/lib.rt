@@ -24,7 +24,7 @@ mod wholeness;
 mod word_bytes;
 mod words;
 
-pub use buffer::canonical_into;
+pub use buffer::{canonical_from, canonical_into};
 pub use bytes::canonical_bytes;
 pub use cap_spec::CanonFault;
 pub use checked_vetting::{check_with, is_canonical};

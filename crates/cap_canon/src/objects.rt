@@ -5,10 +5,9 @@ ghost use Rattle.cap_canon.specs.Objects.{IsObject};
 ghost use Rattle.cap_ptr.specs.Shapes.{FindsTarget};
 ghost use Rattle.cap_spec.specs.Canonical.{trim};
 ghost use Rattle.cap_spec.specs.Denoting.{Denotes};
-ghost use Rattle.cap_spec.specs.Messages.{HasWord, segment_of};
+ghost use Rattle.cap_spec.specs.Messages.{HasWord};
 ghost use Rattle.cap_spec.specs.Tree.{Tree};
-ghost use Rattle.cap_spec.specs.Words.{IsWord};
-ghost use Rattle.std.specs.Prelude.{◌+◌, ◌<◌, ◌≤◌, IsTrue, length, ℕ};
+ghost use Rattle.std.specs.Prelude.{IsTrue, ℕ};
 
 use crate::trimming::{data_left, list_data_left, list_pointers_left, pointers_left};
 use cap_frame::Segments;
@@ -63,8 +62,9 @@ pub(crate) enum Object {
 #[inline(always)]
 pub(crate) fn leads_to_null<M: Segments>(message: &M, s: u32, w: u32) -> bool
     requires { (t : Tree) × (c d : ℕ) × Denotes (M.segments message.now) s w t c d }
-    ensures { let m = M.segments message.now in IsTrue result → (t : Tree) (c d : ℕ)
+    ensures object { let m = M.segments message.now in IsTrue result → (t : Tree) (c d : ℕ)
         → Denotes m s w t c d → IsObject m d s w (trim t) Object.Null }
+    ensures word { IsTrue result → HasWord (M.segments message.now) s w 0 }
 {
     message.word(s, w) == 0
 }
@@ -206,17 +206,4 @@ fn structs_left<M: Segments>(
         pointers_left,
     };
     Object::Structs { count, part }
-}
-
-/// The words of a range are words: each of them is read. Nothing is done with them, so the compiler
-/// leaves the loop out.
-pub(crate) fn read_range<M: Segments>(message: &M, segment: u32, start: u32, count: u32)
-    requires exists { segment < length (M.segments message.now) }
-    requires inside { start + count ≤ length (segment_of (M.segments message.now) segment) }
-    ensures { let m = M.segments message.now in
-        (k : ℕ) → k < count → (x : ℕ) × HasWord m segment (start + k) x × IsWord x }
-{
-    'words: for k in 0..count {
-        let _word = message.word(segment, start + k);
-    }
 }

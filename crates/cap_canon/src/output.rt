@@ -1,5 +1,6 @@
 //! What a canonical copy is written to.
 
+ghost use Rattle.cap_canon.specs.Zeros.{zeros_put};
 ghost use Rattle.cap_spec.specs.Denoting.{words_from};
 ghost use Rattle.cap_spec.specs.Messages.{segment_of};
 ghost use Rattle.cap_spec.specs.Words.{IsWord};
@@ -36,6 +37,15 @@ pub(crate) trait CopyOutput {
     fn set(&mut self, place: u32, word: u64)
         requires { place < length (words self.old) }
         ensures words { words self.new ≡ slice_set (words self.old) place word }
+        ensures capacity { capacity self.new ≡ capacity self.old }
+        ensures borrow { borrow self.new ≡ borrow self.old }
+        ensures after { (n : ℕ) → length (words self.new) ≤ n →
+            after self.new n ≡ after self.old n };
+
+    /// Writes zeros in place of `count` of them in a row, from this one on.
+    fn set_zeros(&mut self, place: u32, count: u32)
+        requires { place + count ≤ length (words self.old) }
+        ensures words { words self.new ≡ zeros_put place count (words self.old) }
         ensures capacity { capacity self.new ≡ capacity self.old }
         ensures borrow { borrow self.new ≡ borrow self.old }
         ensures after { (n : ℕ) → length (words self.new) ≤ n →
@@ -93,5 +103,10 @@ impl CopyOutput for Vec<u64> {
 
     fn set(&mut self, place: u32, word: u64) {
         self[place as usize] = word;
+    }
+
+    fn set_zeros(&mut self, place: u32, count: u32) {
+        let start = place as usize;
+        self.as_mut_slice()[start..start + count as usize].fill(0);
     }
 }

@@ -1,18 +1,22 @@
 //! The walk over an accepted message, in preorder: one pointer word a turn.
 
+ghost use Rattle.cap_canon.specs.AtRuns.{AtRun};
 ghost use Rattle.cap_canon.specs.CopyRuns.{root_run};
 ghost use Rattle.cap_canon.specs.CopyTurns.{IsTurn, TurnKeeps};
 ghost use Rattle.cap_canon.specs.Kept.{Kept};
 ghost use Rattle.cap_canon.specs.Laying.{Due};
+ghost use Rattle.cap_canon.specs.NullTurns.{AreNullTurns, GoesPast, null_slots, with_first};
 ghost use Rattle.cap_canon.specs.Roots.{ForTrimmed, HasTree};
 ghost use Rattle.cap_spec.specs.Canonical.{layout};
+ghost use Rattle.cap_spec.specs.Messages.{HasWord, segment_of};
 ghost use Rattle.cap_spec.specs.Tree.{Tree};
-ghost use Rattle.std.specs.Prelude.{◌≡◌, ◌≤◌, [], ◌∷◌, List, length, ℕ};
+ghost use Rattle.std.specs.Prelude.{◌+◌, ◌++◌, ◌<◌, ◌^◌, ◌≡◌, ◌≤◌, [], ◌∷◌, List, length, ℕ};
 
 use crate::objects::{Object, leads_to_null, object_at};
 use crate::run::{CopyRun, PointerPlace};
 use crate::stack::{Stack, go_on, own_words, run_of};
 use cap_frame::Segments;
+use cap_vet::nulls;
 
 /// What a walk does at each object.
 pub(crate) trait Pass {
@@ -34,6 +38,21 @@ pub(crate) trait Pass {
         ensures kept { let m = M.segments message.now in (u t : Tree) (due : List Due) →
             IsTurn m u object.now place end t due →
             state self.old m u end (record { slot = place.slot; tree = t } ∷ due) →
+            kept self.new u ≡ kept self.old u };
+
+    /// Takes the turns at `count` null pointer words in a row, which become those from `slot` on of
+    /// the copy.
+    fn visit_nulls(&mut self, slot: u32, count: u32)
+        requires { (m : List (List ℕ)) × (whole : Tree) × (end : ℕ) × (due : List Due)
+            × AreNullTurns whole slot count end
+            × state self.old m whole end (null_slots slot count ++ due) }
+        ensures goes_on { (m : List (List ℕ)) (whole : Tree) (end : ℕ) (due : List Due) →
+            AreNullTurns whole slot count end →
+            state self.old m whole end (null_slots slot count ++ due) →
+            state self.new m whole end due }
+        ensures kept { (m : List (List ℕ)) (u : Tree) (end : ℕ) (due : List Due) →
+            AreNullTurns u slot count end →
+            state self.old m u end (null_slots slot count ++ due) →
             kept self.new u ≡ kept self.old u };
 }
 
@@ -60,8 +79,8 @@ pub(crate) fn walk<M: Segments, P: Pass>(message: &M, depth: u32, pass: &mut P) 
 }
 
 // The same with capacity for `N` runs. The current run is beside the stack, so that a word with
-// nothing below it costs no push and no pop. A zero word has a turn of its own, which makes no object:
-// most words of a list may be zero.
+// nothing below it costs no push and no pop. Zero words have turns of their own, which make no
+// object: most words of a list may be zero.
 fn walk_within<M: Segments, P: Pass, const N: usize>(message: &M, depth: u32, pass: &mut P) -> u32
     requires capacity { (depth ≤ N) × (N ≤ 256) }
     requires tree { HasTree (M.segments message.now) depth }
@@ -76,18 +95,18 @@ fn walk_within<M: Segments, P: Pass, const N: usize>(message: &M, depth: u32, pa
     let mut run = root();
     let mut end = 1;
     'walk: loop {
-        let place = PointerPlace {
-            segment: run.segment,
-            word: run.at,
-            slot: run.slot,
-        };
-        if leads_to_null(message, place.segment, place.word) {
-            pass.visit(message, &Object::Null, place, end);
+        if leads_to_null(message, run.segment, run.at) {
+            pass_nulls(message, &mut run, pass);
             if !go_on(&mut stack, &mut run, None) {
                 return end;
             }
             continue;
         }
+        let place = PointerPlace {
+            segment: run.segment,
+            word: run.at,
+            slot: run.slot,
+        };
         let object = object_at(message, place.segment, place.word);
         pass.visit(message, &object, place, end);
         let below = run_of(&object, end);
@@ -96,6 +115,49 @@ fn walk_within<M: Segments, P: Pass, const N: usize>(message: &M, depth: u32, pa
             return end;
         }
     }
+}
+
+// Takes the turns at a zero word and at those that follow it in its row. The run is then at the last
+// of them.
+#[inline(always)]
+fn pass_nulls<M: Segments, P: Pass>(message: &M, run: &mut CopyRun, pass: &mut P)
+    requires at { let m = M.segments message.now in (depth end : ℕ) × (runs : List CopyRun)
+        × AtRun m (P.state pass.old) depth runs run.old end }
+    requires null { HasWord (M.segments message.now) run.old.segment run.old.at 0 }
+    ensures goes_on { let m = M.segments message.now in
+        GoesPast m (P.state pass.old) (with_first (P.state pass.new)) run.old run.new }
+    ensures null { HasWord (M.segments message.now) run.new.segment run.new.at 0 }
+    ensures kept { let m = M.segments message.now in
+        (depth end : ℕ) (runs : List CopyRun) → AtRun m (P.state pass.old) depth runs run.old end →
+        ForTrimmed m (λ u. P.kept pass.new u ≡ P.kept pass.old u) }
+{
+    let more = nulls_after(message, run);
+    if more == 0 {
+        pass.visit_nulls(run.slot, 1);
+        return;
+    }
+    pass.visit_nulls(run.slot, more + 1);
+    run.at += more;
+    run.slot += more;
+    run.left -= more;
+}
+
+// How many null words come after the first word of a run in its row.
+#[inline(always)]
+fn nulls_after<M: Segments>(message: &M, run: &CopyRun) -> u32
+    requires full { 0 < run.now.left }
+    requires short { 1 < run.now.left → run.now.at + 1 < 2 ^ 32 }
+    requires exists { 1 < run.now.left → run.now.segment < length (M.segments message.now) }
+    requires inside { 1 < run.now.left → let m = M.segments message.now in
+        run.now.at + run.now.left ≤ length (segment_of m run.now.segment) }
+    ensures few { result < run.now.left }
+    ensures null { (k : ℕ) → k < result →
+        HasWord (M.segments message.now) run.now.segment (run.now.at + 1 + k) 0 }
+{
+    if run.left < 2 {
+        return 0;
+    }
+    nulls(message, run.segment, run.at + 1, run.left - 1)
 }
 
 // The root word alone.

@@ -2,6 +2,7 @@
 
 ghost use Rattle.cap_canon.specs.FirstWords.{first_words};
 ghost use Rattle.cap_canon.specs.Roots.{ForTrimmed, HasTree};
+ghost use Rattle.cap_canon.specs.Zeros.{zeros_put};
 ghost use Rattle.cap_spec.specs.Canonical.{layout};
 ghost use Rattle.cap_spec.specs.Plain.{plain_text, plain_words};
 ghost use Rattle.cap_spec.specs.Words.{IsWord};
@@ -9,7 +10,6 @@ ghost use Rattle.std.specs.List.{AllByRecursion};
 ghost use Rattle.std.specs.Prelude.{◌*◌, ◌+◌, ◌++◌, ◌/◌, ◌<◌, ◌≡◌, ◌≤◌, [], List, drop, length, slice_set, take, ℕ};
 
 use crate::copying::copy_into;
-use crate::objects::read_range;
 use crate::output::CopyOutput;
 use cap_frame::Segments;
 use cap_words::bytes_of;
@@ -91,10 +91,15 @@ impl CopyOutput for WordBytes<'_> {
         write_word(self.bytes, place as usize, word);
     }
 
+    // Inlined, since a walk calls it for a few words at a time.
+    #[inline(always)]
+    fn set_zeros(&mut self, place: u32, count: u32) {
+        write_zeros(self.bytes, place as usize, count as usize);
+    }
+
     fn append_from<M: Segments>(&mut self, message: &M, segment: u32, start: u32, count: u32) {
         match message.bytes_at(segment, start, count) {
             Some(row) => {
-                read_range(message, segment, start, count);
                 write_row(self.bytes, self.count, row);
                 self.count += count as usize;
             }
@@ -112,6 +117,18 @@ pub(crate) fn write_word(bytes: &mut [u8], number: usize, word: u64)
     ensures after { (n : ℕ) → number < n → drop (8 * n) bytes.new ≡ drop (8 * n) bytes.old }
 {
     bytes[8 * number..8 * number + 8].copy_from_slice(&bytes_of(word));
+}
+
+/// Writes zeros in place of `count` words in a row, from the one with this number on.
+#[inline(always)]
+pub(crate) fn write_zeros(bytes: &mut [u8], number: usize, count: usize)
+    requires { 8 * (number + count) ≤ length bytes.old }
+    ensures len { length bytes.new ≡ length bytes.old }
+    ensures words { plain_words bytes.new ≡ zeros_put number count (plain_words bytes.old) }
+    ensures after { (n : ℕ) → number + count ≤ n →
+        drop (8 * n) bytes.new ≡ drop (8 * n) bytes.old }
+{
+    bytes[8 * number..8 * (number + count)].fill(0);
 }
 
 // Writes the bytes of words in a row in place of those of as many words, from the one with this

@@ -1,16 +1,18 @@
-use Rattle.cap_spec.proofs.ProofNames.{List, None, Option, [], ap, arith, length, option_to_list, refl, rules, subst, ℕ}
+use Rattle.cap_spec.proofs.ProofNames.{List, None, Option, [], ap, append-nil, arith, length, option_to_list, refl, rules, subst, ℕ}
 use Rattle.cap_spec.proofs.ProofNames.{◌++◌, ◌+◌, ◌∙◌, ◌∷◌, ◌≡◌, ◌≤◌, trim, Denotes, Tree}
 use Rattle.cap_spec.proofs.Trees.OneTree.{one_tree}
+use Rattle.cap_canon.specs.AtRuns.{AtRun}
 use Rattle.cap_canon.specs.CanonNames.{Due, ForTrimmed, IsObject, Object, OptionFull, PointerPlace, first_place, below, own_size}
 use Rattle.cap_canon.specs.CanonNames.{IsWalking, longest_copy, option_places, work_left, CopyRun}
 use Rattle.cap_canon.specs.Kept.{Kept}
+use Rattle.cap_canon.specs.NullTurns.{with_first}
 use Rattle.cap_canon.specs.StillToLay.{AreOwed, runs_left}
-use Rattle.cap_canon.specs.declared.objects.Object.TheVariants as object
 use Rattle.cap_canon.proofs.Entering.{entered, capacity_above, work_more}
 use Rattle.cap_canon.proofs.Lengths.{own_within}
+use Rattle.cap_canon.proofs.NullRuns.{at_null, null_turn}
 use Rattle.cap_canon.proofs.Owing.{next_work}
 use Rattle.cap_canon.proofs.Runs.{has_rest}
-use Rattle.cap_canon.proofs.Walks.{AtRun, TurnHere, first_run, last_turn, next_run, turn_here, work_falls}
+use Rattle.cap_canon.proofs.Walks.{TurnHere, first_run, last_turn, next_run, turn_here, work_falls}
 use Rattle.cap_canon.proofs.walk.walk_within.Goals as goal
 
 module _ {m : List (List ℕ)} {state : List (List ℕ) → Tree → ℕ → List Due → Type 0} {depth : ℕ} {runs : List CopyRun} {end : ℕ} where
@@ -55,8 +57,8 @@ object_at-object-requires g c = word_here c.walk.invariant.at
 pub leads_to_null-requires : goal.leads_to_null-requires
 leads_to_null-requires g c = word_here c.walk.invariant.at
 
-pub visit-requires-in-walk : goal.visit-requires-in-walk
-visit-requires-in-walk g c =
+pub visit-requires : goal.visit-requires
+visit-requires g c =
     let h = here c.object_at-object.result c.walk.invariant.at c.object_at-object.ensures in
     (trim h.at.root, h.at.tree, h.at.due, h.turn, h.at.so_far)
 
@@ -95,15 +97,15 @@ returns-then-not-go_on-2-clause-done g c =
     let e = ap (λ n. w.end + n) (c.own_words-end.ensures _ h.met.d w.run.segment w.run.at h.at.tree h.met.is) in
     let owed = c.run_of-below.ensures.owed _ h.met.d w.run.segment w.run.at c.args.depth _ h.at.tree h.met.is h.met.levels in
     let none = on.runs ∙ ap (λ b. runs_left b c.go_on-in-walk.new.stack.items c.go_on-in-walk.new.run) c.if-not-go_on-2.true in
-    last_turn (g.P.Pass.state w.pass) (g.P.Pass.state c.visit-in-walk.new.self) h.at e
+    last_turn (g.P.Pass.state w.pass) (g.P.Pass.state c.visit.new.self) h.at e
     (walking h c.run_of-below.result _ [] e c.run_of-below.ensures.full owed none)
-    (c.visit-in-walk.ensures.goes_on (trim h.at.root) h.at.tree h.at.due h.turn h.at.so_far)
+    (c.visit.ensures.goes_on (trim h.at.root) h.at.tree h.at.due h.turn h.at.so_far)
 
 pub returns-then-not-go_on-2-clause-kept : goal.returns-then-not-go_on-2-clause-kept
 returns-then-not-go_on-2-clause-kept g c =
     let h = here c.object_at-object.result c.walk.invariant.at c.object_at-object.ensures in
-    kept_on h (g.P.Pass.kept c.visit-in-walk.new.self) (g.P.Pass.kept c.walk.pass) (g.P.Pass.kept c.args.pass.now)
-    (c.visit-in-walk.ensures.kept (trim h.at.root) h.at.tree h.at.due h.turn h.at.so_far) c.walk.invariant.kept
+    kept_on h (g.P.Pass.kept c.visit.new.self) (g.P.Pass.kept c.walk.pass) (g.P.Pass.kept c.args.pass.now)
+    (c.visit.ensures.kept (trim h.at.root) h.at.tree h.at.due h.turn h.at.so_far) c.walk.invariant.kept
 
 pub walk-smaller : goal.walk-smaller
 walk-smaller g c =
@@ -130,48 +132,65 @@ walk-preserved g c =
     let owed = c.run_of-below.ensures.owed _ h.met.d w.run.segment w.run.at c.args.depth _ h.at.tree h.met.is h.met.levels in
     let new = c.go_on-in-walk.new in
     let same = on.runs ∙ ap (λ b. runs_left b new.stack.items new.run) c.if-not-go_on-2.false in record {
-      at = next_run _ (g.P.Pass.state w.pass) (g.P.Pass.state c.visit-in-walk.new.self) _ _ new.stack.items _ _ _ new.run h.at e
+      at = next_run _ (g.P.Pass.state w.pass) (g.P.Pass.state c.visit.new.self) _ _ new.stack.items _ _ _ new.run h.at e
           (walking h c.run_of-below.result _ (new.stack.items ++ new.run ∷ []) e c.run_of-below.ensures.full owed same)
-          (c.visit-in-walk.ensures.goes_on (trim h.at.root) h.at.tree h.at.due h.turn h.at.so_far);
-      kept = kept_on h (g.P.Pass.kept c.visit-in-walk.new.self) (g.P.Pass.kept w.pass) (g.P.Pass.kept c.args.pass.now)
-          (c.visit-in-walk.ensures.kept (trim h.at.root) h.at.tree h.at.due h.turn h.at.so_far) w.invariant.kept;
+          (c.visit.ensures.goes_on (trim h.at.root) h.at.tree h.at.due h.turn h.at.so_far);
+      kept = kept_on h (g.P.Pass.kept c.visit.new.self) (g.P.Pass.kept w.pass) (g.P.Pass.kept c.args.pass.now)
+          (c.visit.ensures.kept (trim h.at.root) h.at.tree h.at.due h.turn h.at.so_far) w.invariant.kept;
     }
 
-pub visit-requires : goal.visit-requires
-visit-requires g c =
-    let h = here object.Null c.walk.invariant.at (c.leads_to_null.ensures c.if-leads_to_null.true) in
-    (trim h.at.root, h.at.tree, h.at.due, h.turn, h.at.so_far)
+pub pass_nulls-requires-clause-at : goal.pass_nulls-requires-clause-at
+pass_nulls-requires-clause-at g c = (c.args.depth, c.walk.end, c.walk.stack.items, c.walk.invariant.at)
+
+pub pass_nulls-requires-clause-null : goal.pass_nulls-requires-clause-null
+pass_nulls-requires-clause-null g c = c.leads_to_null.ensures.word c.if-leads_to_null.true
 
 pub go_on-requires : goal.go_on-requires
-go_on-requires g c = (search rules, (c.requires.capacity.1, (tt, (c.walk.invariant.at.full, c.walk.invariant.at.short))))
+go_on-requires g c =
+    let w = c.walk in
+    let k = (c.pass_nulls.ensures.goes_on c.args.depth w.end w.stack.items w.invariant.at).0 in
+    (search rules, (c.requires.capacity.1, (tt, (k.full, k.short))))
 
 pub returns-then-not-go_on-clause-done : goal.returns-then-not-go_on-clause-done
 returns-then-not-go_on-clause-done g c =
     let w = c.walk in
     let on = c.go_on.ensures in
-    let h = turn_here object.Null w.invariant.at on.rest on.is_rest (c.leads_to_null.ensures c.if-leads_to_null.true) in
+    let k = (c.pass_nulls.ensures.goes_on c.args.depth w.end w.stack.items w.invariant.at).0 in
+    let h = null_turn k c.pass_nulls.ensures.null on.rest on.is_rest in
     let e : w.end ≡ w.end + own_size h.at.tree = omega (arith, ap own_size h.met.is) in
     let none = on.runs ∙ ap (λ b. runs_left b c.go_on.new.stack.items c.go_on.new.run) c.if-not-go_on.true in
-    last_turn (g.P.Pass.state w.pass) (g.P.Pass.state c.visit.new.self) h.at e
-    (walking h None _ [] e tt (rw h.met.is tt) none) (c.visit.ensures.goes_on (trim h.at.root) h.at.tree h.at.due h.turn h.at.so_far)
+    last_turn (with_first (g.P.Pass.state c.pass_nulls.new.pass)) (g.P.Pass.state c.pass_nulls.new.pass) h.at e
+    (walking h None _ [] e tt (rw h.met.is tt) none)
+    (at_null (g.P.Pass.state c.pass_nulls.new.pass (g.M.Segments.segments c.args.message.now) (trim h.at.root)) h.at.tree w.end h.at.due h.met.is h.at.so_far)
 
 pub returns-then-not-go_on-clause-kept : goal.returns-then-not-go_on-clause-kept
 returns-then-not-go_on-clause-kept g c =
-    let h = here object.Null c.walk.invariant.at (c.leads_to_null.ensures c.if-leads_to_null.true) in
-    kept_on h (g.P.Pass.kept c.visit.new.self) (g.P.Pass.kept c.walk.pass) (g.P.Pass.kept c.args.pass.now)
-    (c.visit.ensures.kept (trim h.at.root) h.at.tree h.at.due h.turn h.at.so_far) c.walk.invariant.kept
+    let w = c.walk in
+    λ t x d n. c.pass_nulls.ensures.kept c.args.depth w.end w.stack.items w.invariant.at t x d n ∙ w.invariant.kept t x d n
 
 pub walk-preserved-then-leads_to_null : goal.walk-preserved-then-leads_to_null
 walk-preserved-then-leads_to_null g c =
     let w = c.walk in
     let on = c.go_on.ensures in
-    let h = turn_here object.Null w.invariant.at on.rest on.is_rest (c.leads_to_null.ensures c.if-leads_to_null.true) in
+    let k = (c.pass_nulls.ensures.goes_on c.args.depth w.end w.stack.items w.invariant.at).0 in
+    let h = null_turn k c.pass_nulls.ensures.null on.rest on.is_rest in
     let e : w.end ≡ w.end + own_size h.at.tree = omega (arith, ap own_size h.met.is) in
     let new = c.go_on.new in
     let same = on.runs ∙ ap (λ b. runs_left b new.stack.items new.run) c.if-not-go_on.false in record {
-      at = next_run _ (g.P.Pass.state w.pass) (g.P.Pass.state c.visit.new.self) _ _ new.stack.items _ _ _ new.run h.at e
+      at = next_run _ (with_first (g.P.Pass.state c.pass_nulls.new.pass)) (g.P.Pass.state c.pass_nulls.new.pass) _ _ new.stack.items _ _ _ new.run h.at e
           (walking h None _ (new.stack.items ++ new.run ∷ []) e tt (rw h.met.is tt) same)
-          (c.visit.ensures.goes_on (trim h.at.root) h.at.tree h.at.due h.turn h.at.so_far);
-      kept = kept_on h (g.P.Pass.kept c.visit.new.self) (g.P.Pass.kept w.pass) (g.P.Pass.kept c.args.pass.now)
-          (c.visit.ensures.kept (trim h.at.root) h.at.tree h.at.due h.turn h.at.so_far) w.invariant.kept;
+          (at_null (g.P.Pass.state c.pass_nulls.new.pass (g.M.Segments.segments c.args.message.now) (trim h.at.root)) h.at.tree w.end h.at.due h.met.is h.at.so_far);
+      kept = λ t x d n. c.pass_nulls.ensures.kept c.args.depth w.end w.stack.items w.invariant.at t x d n ∙ w.invariant.kept t x d n;
     }
+
+pub walk-smaller-then-leads_to_null : goal.walk-smaller-then-leads_to_null
+walk-smaller-then-leads_to_null g c =
+    let w = c.walk in
+    let on = c.go_on.ensures in
+    let past = (c.pass_nulls.ensures.goes_on c.args.depth w.end w.stack.items w.invariant.at).1 in
+    let new = c.go_on.new in
+    let runs = w.stack.items ++ option_to_list on.rest in
+    let left = on.runs ∙ ap (λ b. runs_left b new.stack.items new.run) c.if-not-go_on.false in
+    let same : runs ≡ new.stack.items ++ new.run ∷ [] = subst (λ fs. fs ≡ new.stack.items ++ new.run ∷ []) (append-nil runs) left in
+    let less = next_work w.stack.items c.pass_nulls.new.run on.rest on.is_rest in
+    let e = ap work_left same in omega (arith, past, less, e)

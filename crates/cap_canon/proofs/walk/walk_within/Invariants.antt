@@ -1,6 +1,6 @@
 use Rattle.std.proofs.Common.{[], ◌++◌, ◌+◌, ◌-◌, ◌∷◌, ◌≡◌}
 use Rattle.cap_canon.specs.CanonNames.{ForTrimmed, longest_copy, work_left}
-use Rattle.cap_canon.proofs.Walks.{AtRun}
+use Rattle.cap_canon.specs.AtRuns.{AtRun}
 use Rattle.cap_canon.proofs.walk.walk_within.Given as goal
 
 abbrev pub invariant-walk : goal.invariant-walk

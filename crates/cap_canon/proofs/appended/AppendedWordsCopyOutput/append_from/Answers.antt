@@ -1,7 +1,7 @@
+use Rattle.std.proofs.lemmas.List.Elements.{recursion_from_All}
 use Rattle.cap_spec.proofs.Lemmas.{length_plain, words_exact, range_length}
 use Rattle.cap_spec.proofs.ProofNames.{length-append, rules}
 use Rattle.cap_canon.proofs.Afters.{row_joined}
-use Rattle.cap_canon.proofs.LaidObjects.{range_words}
 use Rattle.cap_canon.proofs.appended.AppendedWordsCopyOutput.append_from.Goals as goal
 
 pub unwrap-requires : goal.unwrap-requires
@@ -11,7 +11,7 @@ pub invariant_of-self : goal.invariant_of-self
 invariant_of-self g c = search (rules, range_length, length_plain, words_exact, length-append)
 
 pub returns-in-Some-clause-words : goal.returns-in-Some-clause-words
-returns-in-Some-clause-words g c = search (rules, range_words, row_joined)
+returns-in-Some-clause-words g c = search (rules, recursion_from_All, row_joined)
 
 pub returns-in-Some-clause-are_words : goal.returns-in-Some-clause-are_words
-returns-in-Some-clause-are_words g c = search (rules, range_words)
+returns-in-Some-clause-are_words g c = search (rules, recursion_from_All)

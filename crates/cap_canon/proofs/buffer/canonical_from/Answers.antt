@@ -6,7 +6,7 @@ use Rattle.cap_canon.specs.CopyBuffers.{written}
 use Rattle.cap_canon.proofs.Afters.{front_and_after}
 use Rattle.cap_canon.proofs.Buffers.{one_buffer}
 use Rattle.cap_canon.proofs.Copies.{copy_length, has_tree}
-use Rattle.cap_canon.proofs.buffer.canonical_into.Goals as goal
+use Rattle.cap_canon.proofs.buffer.canonical_from.Goals as goal
 
 pub returns-in-Err-clause-reports : goal.returns-in-Err-clause-reports
 returns-in-Err-clause-reports g c = c.in-Err.ensures.err c.args.out.now refl
@@ -15,18 +15,18 @@ pub returns-in-Err-clause-only : goal.returns-in-Err-clause-only
 returns-in-Err-clause-only g c = λ reported new h. one_buffer (returns-in-Err-clause-reports g c) h
 
 pub fill_front-words-requires-clause-tree : goal.fill_front-words-requires-clause-tree
-fill_front-words-requires-clause-tree g c = let k = c.report.ensures.accepted in rw c.message.ensures.value (has_tree _ c.report.result k.0 k.1)
+fill_front-words-requires-clause-tree g c = let k = c.report.ensures.accepted in rw c.requires (has_tree _ c.report.result k.0 k.1)
 
 pub fill_front-words-requires-clause-length : goal.fill_front-words-requires-clause-length
 fill_front-words-requires-clause-length g c =
     let h = c.in_default.ensures.ok in
-    rw c.message.ensures.value (λ t x d f. omega (arith, copy_length t x d h.1 f, h.2))
+    rw c.requires (λ t x d f. omega (arith, copy_length t x d h.1 f, h.2))
 
 pub overflow_mul-result : goal.overflow_mul-result
 overflow_mul-result g c =
     let m = g.M.Segments.segments (message_of c.args.v.now) in
     let k = c.report.ensures.accepted in
-    let counts = rw c.message.ensures.value at c.fill_front-words.ensures.count in
+    let counts = rw c.requires at c.fill_front-words.ensures.count in
     omega (arith, counts k.0 _ _ k.1.within.denotes, layout_charged m 0 0 k.0 _ _ k.1.within.denotes, k.1.within.few_words)
 
 pub returns-clause-reports : goal.returns-clause-reports
@@ -36,9 +36,9 @@ returns-clause-reports g c =
     let denotes = h.1.denotes in
     let new = c.fill_front-words.new.out in
     let long = length_plain words in
-    let counts = rw c.message.ensures.value at c.fill_front-words.ensures.count in
-    let texts = rw c.message.ensures.value at c.fill_front-words.ensures.text in
-    let afters = rw c.message.ensures.value at c.fill_front-words.ensures.after in
+    let counts = rw c.requires at c.fill_front-words.ensures.count in
+    let texts = rw c.requires at c.fill_front-words.ensures.text in
+    let afters = rw c.requires at c.fill_front-words.ensures.after in
     let same = ap length h.1.laid in
     let n : c.fill_front-words.result ≡ length words = counts h.1.tree h.1.charge h.1.depth denotes ∙ sym same in
     let whole = front_and_after _ c.args.out.now new _ (texts h.1.tree h.1.charge h.1.depth denotes) (afters h.1.tree h.1.charge h.1.depth denotes) in
