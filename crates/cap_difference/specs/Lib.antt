@@ -1,0 +1,4 @@
+pub mod Reasons
+pub mod Differences
+pub mod Reading
+pub mod Searching
