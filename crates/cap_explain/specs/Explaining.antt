@@ -10,6 +10,7 @@ use Rattle.cap_spec.specs.declared.Step.{Step}
 use Rattle.cap_spec.specs.declared.StrictRefusal.{StrictRefusal}
 use Rattle.cap_spec.specs.declared.StrictRefusal.TheVariants.{ManySegments as many, Pointer as not_strict}
 use Rattle.cap_spec.specs.declared.StrictRefusal.TheVariants.{Refused as refused}
+use Rattle.cap_difference.specs.declared.difference.Difference.{Difference}
 use Rattle.cap_explain.specs.FormTexts.{difference_text, form_text, place_text, tag_text}
 use Rattle.cap_explain.specs.Leading.{byte_of, is_structs, landing_of, segment_after, tag_of, target_of, word_of}
 use Rattle.cap_explain.specs.Sentences.{names_pointer, sentence}
@@ -18,7 +19,7 @@ use Rattle.cap_explain.specs.declared.landing.Landing.TheVariants.{Missing, Near
 use Rattle.cap_explain.specs.declared.numbers.MessageStart.{MessageStart}
 use Rattle.cap_explain.specs.declared.numbers.Numbers.{Numbers}
 use Rattle.cap_explain.specs.declared.sentences.Fault.{Fault}
-use Rattle.cap_explain.specs.declared.sentences.Fault.TheVariants.{ManySegments, NotStrict, Overlap, Refused}
+use Rattle.cap_explain.specs.declared.sentences.Fault.TheVariants.{Differs, ManySegments, NotStrict, Overlap, Refused}
 use Rattle.cap_explain.specs.declared.target.Target.{Target}
 
 -- the input in which bytes are counted: those of a packed one are counted unpacked
@@ -196,7 +197,19 @@ refusal_lines m (not_strict what s w pointers) k = lines_of m (NotStrict what) s
 abbrev pub explanation : Option (List Step) → List (List ℕ) → StrictRefusal → Numbers → List ℕ
 explanation path m refusal k = path_lines path ++ refusal_lines m refusal k
 
--- the lines that explain that a pointer overlaps
+-- of an overlap or a difference there are no limits: whether the message has a segment table, and where it begins
+abbrev pub overlap_numbers : Bool → Option MessageStart → Numbers
+overlap_numbers has_table start = record { words = 0; depth = 0; charge = None; has_table = has_table; start = start }
+
+-- the lines that explain that a pointer overlaps, of a message that has a segment table or not
+abbrev pub overlap_lines : Bool → Option (List Step) → List (List ℕ) → Option MessageStart → ℕ → ℕ → List ℕ
+overlap_lines has_table path m start s w = path_lines path ++ lines_of m Overlap s w (overlap_numbers has_table start)
+
+-- the same, of a message that has one
 abbrev pub overlap_explanation : Option (List Step) → List (List ℕ) → Option MessageStart → ℕ → ℕ → List ℕ
-overlap_explanation path m start s w = path_lines path
-    ++ lines_of m Overlap s w (record { words = 0; depth = 0; charge = None; has_table = true; start = start })
+overlap_explanation path m start s w = overlap_lines true path m start s w
+
+-- the lines that explain the first difference of an accepted message from its canonical copy
+abbrev pub difference_explanation : Option (List Step) → List (List ℕ) → Option MessageStart → Difference → List ℕ
+difference_explanation path m start d =
+    path_lines path ++ lines_of m (Differs d.reason) d.segment d.word (overlap_numbers true start)

@@ -93,7 +93,7 @@ pub data IsTrue (m : List (List ℕ)) (words depth s w : ℕ) (sentence : List �
   capability_pad : sentence ≡ codes "the only word of the landing pad is a capability, which common readers reject"
       → (p q : ℕ) → HasWord m s w p → IsOnePad p → HasWord m (far_segment p) (pad p) q → IsCap q
       → IsTrue m words depth s w sentence
-  overlaps : sentence ≡ codes "the pointer uses a word twice, or one that is used before it in preorder; --exclusive forbids both"
+  overlaps : sentence ≡ codes "the pointer uses a word twice, the root word, or one that an earlier pointer uses; --exclusive forbids all three"
       → (path : List Step) (number : ℕ) → IsNumbered m path s w number → Overlaps m path
       → IsTrue m words depth s w sentence
 

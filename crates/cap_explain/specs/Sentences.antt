@@ -6,11 +6,13 @@ use Rattle.cap_spec.specs.declared.Reason.{Reason}
 use Rattle.cap_spec.specs.declared.Reason.TheVariants.{CompositeOverrun, CompositeTag, DepthLimit, NoRoot, OutOfSegment}
 use Rattle.cap_spec.specs.declared.Reason.TheVariants.{PadIsFar, PadNotFar, PadOutside, Reserved, SegmentMissing}
 use Rattle.cap_spec.specs.declared.Reason.TheVariants.{TagKind, TagOffset, WordLimit}
+use Rattle.cap_difference.specs.declared.reason.DifferenceReason.{DifferenceReason}
+use Rattle.cap_difference.specs.declared.reason.DifferenceReason.TheVariants as reason
 use Rattle.cap_explain.specs.Leading.{is_structs}
 use Rattle.cap_explain.specs.declared.landing.Landing.{Landing}
 use Rattle.cap_explain.specs.declared.landing.Landing.TheVariants.{One, Two}
 use Rattle.cap_explain.specs.declared.sentences.Fault.{Fault}
-use Rattle.cap_explain.specs.declared.sentences.Fault.TheVariants.{ManySegments, NotStrict, Overlap, Refused}
+use Rattle.cap_explain.specs.declared.sentences.Fault.TheVariants.{Differs, ManySegments, NotStrict, Overlap, Refused}
 use Rattle.cap_explain.specs.declared.target.Target.{Target}
 
 -- the pointer itself is reserved, or the word of its landing pad
@@ -71,6 +73,31 @@ lax_sentence EmptySegment =
 lax_sentence CapabilityPad =
     codes "the only word of the landing pad is a capability, which common readers reject"
 
+-- why an accepted message isn't its own canonical copy
+abbrev pub difference_sentence : DifferenceReason → List ℕ
+difference_sentence reason.Segments =
+    codes "the message has more than one segment, and a canonical message has one"
+difference_sentence reason.Far =
+    codes "the pointer is a far pointer, and a canonical message has none"
+difference_sentence reason.Capability =
+    codes "the pointer is a capability, so the message has no canonical copy"
+difference_sentence reason.EmptyStruct =
+    codes "the target is a struct without words, and the pointer of a canonical message to it is fcffffff00000000"
+difference_sentence reason.Place =
+    codes "the target is not where the canonical copy has it: it is out of preorder, after a gap, or used twice"
+difference_sentence reason.Bits =
+    codes "bits are set after the last value of the list, and a canonical message has zeros there"
+difference_sentence reason.EmptyList =
+    codes "the list of structs has no elements, and a canonical message has no sizes in the tag of such a list"
+difference_sentence reason.Surplus =
+    codes "the list of structs has words after its last element, and a canonical message has none"
+difference_sentence reason.DataZero =
+    codes "the last data word of the struct, or of all structs of the list, is zero, and a canonical message leaves it out"
+difference_sentence reason.PointerNull =
+    codes "the last pointer of the struct, or of all structs of the list, is null, and a canonical message leaves it out"
+difference_sentence reason.Trailing =
+    codes "words come after the last object, and a canonical message ends with it"
+
 -- the reason, by the landing pad and the target of the pointer
 abbrev pub sentence : Fault → Landing → Option Target → List ℕ
 sentence (Refused reason) pad target = reason_sentence reason pad target
@@ -78,9 +105,12 @@ sentence ManySegments pad target =
     codes "the message has 512 segments, and common readers take at most 511"
 sentence (NotStrict what) pad target = lax_sentence what
 sentence Overlap pad target =
-    codes "the pointer uses a word twice, or one that is used before it in preorder; --exclusive forbids both"
+    codes "the pointer uses a word twice, the root word, or one that an earlier pointer uses; --exclusive forbids all three"
+sentence (Differs reason) pad target = difference_sentence reason
 
 -- the fault is one of a pointer
 abbrev pub names_pointer : Fault → Bool
 names_pointer ManySegments = false
+names_pointer (Differs reason.Segments) = false
+names_pointer (Differs reason.Trailing) = false
 names_pointer _ = true

@@ -28,9 +28,9 @@ pub fn explain_earlier(text: &mut Explanation, segment: u32, word: u32, path: Op
     ensures { text.new ≡ earlier_explanation (option_map (λ steps. steps.now) path.entry) segment word }
 {
     text.clear();
-    if let Some(steps) = path
-        && steps.len() <= STEPS
-    {
-        push_earlier_line(text, steps, segment, word);
+    if let Some(steps) = path {
+        if steps.len() <= STEPS {
+            push_earlier_line(text, steps, segment, word);
+        }
     }
 }

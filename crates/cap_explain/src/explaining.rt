@@ -1,8 +1,8 @@
 //! The explanation of a refusal.
 
-ghost use Rattle.cap_explain.specs.Explaining.{explanation, lines_of, lines_over, overlap_explanation, pointer_lines};
+ghost use Rattle.cap_explain.specs.Explaining.{difference_explanation, explanation, lines_of, lines_over, overlap_explanation, overlap_lines, pointer_lines};
 ghost use Rattle.std.specs.Option.{option_map};
-ghost use Rattle.std.specs.Prelude.{◌+◌, ◌*◌, ◌++◌, ◌^◌, ◌<◌, ◌≡◌, ◌≤◌, IfSome, length};
+ghost use Rattle.std.specs.Prelude.{◌+◌, ◌*◌, ◌++◌, ◌^◌, ◌<◌, ◌≡◌, ◌≤◌, IfSome, None, length};
 
 use crate::explanation::{CAPACITY, Explanation};
 use crate::landing::{Landing, landing_of};
@@ -15,6 +15,7 @@ use crate::path::push_path_lines;
 use crate::sentences::{Fault, names_pointer};
 use crate::target::{Target, segment_after, target_of};
 use crate::words::word_of;
+use cap_difference::Difference;
 use cap_frame::Segments;
 use cap_spec::{Step, StrictRefusal};
 
@@ -146,6 +147,31 @@ pub fn explain<M: Segments>(
     push_fault(text, message, fault, segment, word, numbers);
 }
 
+/// Writes the lines of an overlap, of a message that has a segment table or not.
+fn push_overlap<M: Segments>(
+    text: &mut Explanation,
+    message: &M,
+    has_table: bool,
+    start: Option<MessageStart>,
+    segment: u32,
+    word: u32,
+    path: Option<&[Step]>,
+)
+    ensures { text.new ≡ overlap_lines has_table (option_map (λ steps. steps.now) path.entry)
+        (M.segments message.now) start segment word }
+{
+    text.clear();
+    push_path_lines(text, path);
+    let numbers = Numbers {
+        words: 0,
+        depth: 0,
+        charge: None,
+        has_table,
+        start,
+    };
+    push_fault(text, message, Fault::Overlap, segment, word, numbers);
+}
+
 /// Writes the lines that explain that the pointer at word `word` of segment `segment` overlaps. The
 /// message begins at `start`, if it is one of a stream. See [`explain`].
 pub fn explain_overlap<M: Segments>(
@@ -159,6 +185,39 @@ pub fn explain_overlap<M: Segments>(
     ensures { text.new ≡ overlap_explanation (option_map (λ steps. steps.now) path.entry)
         (M.segments message.now) start segment word }
 {
+    push_overlap(text, message, true, start, segment, word, path);
+}
+
+/// The same of a message that isn't one of a stream, and has a segment table or not.
+pub fn explain_overlap_alone<M: Segments>(
+    text: &mut Explanation,
+    message: &M,
+    has_table: bool,
+    segment: u32,
+    word: u32,
+    path: Option<&[Step]>,
+)
+    ensures { text.new ≡ overlap_lines has_table (option_map (λ steps. steps.now) path.entry)
+        (M.segments message.now) None segment word }
+{
+    push_overlap(text, message, has_table, None, segment, word, path);
+}
+
+/// Writes the lines that explain the first difference of an accepted message from its canonical
+/// copy (docs/output.md, explain): those of a refusal, with the reason of the difference. The
+/// message begins at `start`, if it is one of a stream. `path` is that to the pointer that is
+/// named. With `Segments` and `Trailing` no pointer is, so there is only the line of the reason.
+/// See [`explain`].
+pub fn explain_difference<M: Segments>(
+    text: &mut Explanation,
+    message: &M,
+    start: Option<MessageStart>,
+    difference: &Difference,
+    path: Option<&[Step]>,
+)
+    ensures { text.new ≡ difference_explanation (option_map (λ steps. steps.now) path.entry)
+        (M.segments message.now) start difference.now }
+{
     text.clear();
     push_path_lines(text, path);
     let numbers = Numbers {
@@ -168,5 +227,13 @@ pub fn explain_overlap<M: Segments>(
         has_table: true,
         start,
     };
-    push_fault(text, message, Fault::Overlap, segment, word, numbers);
+    let fault = Fault::Differs(difference.reason);
+    push_fault(
+        text,
+        message,
+        fault,
+        difference.segment,
+        difference.word,
+        numbers,
+    );
 }

@@ -303,10 +303,10 @@ fn push_overrun_line<M: Segments>(text: &mut Explanation, message: &M, target: &
     ensures items { text.new ≡ text.old ++ overrun_line (M.segments message.now) target.now }
     ensures few { length text.new ≤ length text.old + PLAIN }
 {
-    if let Some(target) = target
-        && let Some(tag) = tag_of(message, target)
-    {
-        push_elements_line(text, target.word, tag);
+    if let Some(target) = target {
+        if let Some(tag) = tag_of(message, target) {
+            push_elements_line(text, target.word, tag);
+        }
     }
 }
 

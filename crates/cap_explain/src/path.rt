@@ -75,9 +75,9 @@ pub(crate) fn push_path_lines(text: &mut Explanation, path: Option<&[Step]>)
     ensures items { text.new ≡ text.old ++ path_lines (option_map (λ steps. steps.now) path.entry) }
     ensures few { length text.new ≤ length text.old + PATH }
 {
-    if let Some(steps) = path
-        && steps.len() <= STEPS
-    {
-        push_path_line(text, steps);
+    if let Some(steps) = path {
+        if steps.len() <= STEPS {
+            push_path_line(text, steps);
+        }
     }
 }

@@ -1,16 +1,17 @@
 //! Each reason of a refusal, as a sentence.
 
-ghost use Rattle.cap_explain.specs.Sentences.{deep_sentence, lax_sentence, missing_sentence, names_pointer, outside_sentence, reason_sentence, reserved_sentence, sentence};
+ghost use Rattle.cap_explain.specs.Sentences.{deep_sentence, difference_sentence, lax_sentence, missing_sentence, names_pointer, outside_sentence, reason_sentence, reserved_sentence, sentence};
 ghost use Rattle.std.specs.Prelude.{◌≡◌, ◌≤◌, length};
 
 use crate::landing::Landing;
 use crate::target::{Target, is_structs};
+use cap_difference::DifferenceReason;
 use cap_spec::{Lax, Reason};
 
 /// The most bytes of a sentence.
 pub(crate) const SENTENCE: usize = 120;
 
-/// Why a message is refused.
+/// Why a message is refused, or isn't its own canonical copy.
 #[derive(Clone, Copy, Drop)]
 pub(crate) enum Fault {
     /// It isn't accepted.
@@ -21,13 +22,19 @@ pub(crate) enum Fault {
     NotStrict(Lax),
     /// A pointer overlaps, and an exclusive message is demanded.
     Overlap,
+    /// It is accepted, and this is the first difference from its canonical copy.
+    Differs(DifferenceReason),
 }
 
 /// The fault is one of a pointer.
 pub(crate) fn names_pointer(fault: Fault) -> bool
     ensures { result ≡ names_pointer fault }
 {
-    !matches!(fault, Fault::ManySegments)
+    match fault {
+        Fault::ManySegments => false,
+        Fault::Differs(DifferenceReason::Segments | DifferenceReason::Trailing) => false,
+        _ => true,
+    }
 }
 
 /// The pointer itself is reserved, or the word of its landing pad.
@@ -135,6 +142,46 @@ fn lax_sentence(what: Lax) -> &'static [u8]
     }
 }
 
+/// Why an accepted message isn't its own canonical copy, as a sentence of at most 120 bytes.
+pub fn difference_sentence(reason: DifferenceReason) -> &'static [u8]
+    ensures text { result.now ≡ difference_sentence reason }
+    ensures short { length result.now ≤ 120 }
+{
+    match reason {
+        DifferenceReason::Segments => {
+            b"the message has more than one segment, and a canonical message has one"
+        }
+        DifferenceReason::Far => b"the pointer is a far pointer, and a canonical message has none",
+        DifferenceReason::Capability => {
+            b"the pointer is a capability, so the message has no canonical copy"
+        }
+        DifferenceReason::EmptyStruct => {
+            b"the target is a struct without words, and the pointer of a canonical message to it is fcffffff00000000"
+        }
+        DifferenceReason::Place => {
+            b"the target is not where the canonical copy has it: it is out of preorder, after a gap, or used twice"
+        }
+        DifferenceReason::Bits => {
+            b"bits are set after the last value of the list, and a canonical message has zeros there"
+        }
+        DifferenceReason::EmptyList => {
+            b"the list of structs has no elements, and a canonical message has no sizes in the tag of such a list"
+        }
+        DifferenceReason::Surplus => {
+            b"the list of structs has words after its last element, and a canonical message has none"
+        }
+        DifferenceReason::DataZero => {
+            b"the last data word of the struct, or of all structs of the list, is zero, and a canonical message leaves it out"
+        }
+        DifferenceReason::PointerNull => {
+            b"the last pointer of the struct, or of all structs of the list, is null, and a canonical message leaves it out"
+        }
+        DifferenceReason::Trailing => {
+            b"words come after the last object, and a canonical message ends with it"
+        }
+    }
+}
+
 /// The reason, by the landing pad and the target of the pointer.
 pub(crate) fn sentence(fault: Fault, landing: Landing, target: &Option<Target>) -> &'static [u8]
     ensures text { result.now ≡ sentence fault landing target.now }
@@ -145,6 +192,7 @@ pub(crate) fn sentence(fault: Fault, landing: Landing, target: &Option<Target>) 
         Fault::ManySegments => b"the message has 512 segments, and common readers take at most 511",
         Fault::NotStrict(what) => lax_sentence(what),
         Fault::Overlap =>
-            b"the pointer uses a word twice, or one that is used before it in preorder; --exclusive forbids both",
+            b"the pointer uses a word twice, the root word, or one that an earlier pointer uses; --exclusive forbids all three",
+        Fault::Differs(reason) => difference_sentence(reason),
     }
 }

@@ -6,6 +6,7 @@ use Rattle.cap_frame.specs.declared.fault.FrameFault.TheVariants.{Device, Memory
 use Rattle.cap_frame.specs.declared.fault.FrameFault.TheVariants.{Truncated}
 use Rattle.cap_frame.specs.declared.table.TableSums.{TableSums}
 use Rattle.cap_text.specs.FaultLines.{run_fault_line}
+use Rattle.cap_text.specs.Guesses.{break_guess, guess_line}
 use Rattle.cap_text.specs.declared.fault.Cause.{Cause}
 use Rattle.cap_text.specs.declared.fault.Cause.TheVariants.{Canon, Frame, NotStrict, Output, Refused, TooManyMessages}
 use Rattle.cap_text.specs.declared.fault.Cause.TheVariants.{Memory as no_marks}
@@ -89,16 +90,21 @@ break_lines Device at = []
 break_lines Memory at = []
 break_lines Spent at = []
 
--- the lines by why an engine ended
-abbrev pub cause_lines : Cause → StreamBreak → List ℕ
-cause_lines TooManyMessages at = []
-cause_lines (Frame fault) at = break_lines fault at
-cause_lines (Output fault) at = []
-cause_lines (Refused refusal) at = []
-cause_lines (NotStrict fault) at = []
-cause_lines (Canon fault) at = []
-cause_lines no_marks at = []
+-- the same on message n, and the line of a guess
+abbrev pub guessed_lines : ℕ → FrameFault → StreamBreak → List ℕ
+guessed_lines n fault at = break_lines fault at ++ guess_line (break_guess n fault at)
+
+-- the lines by why an engine ended at message n
+abbrev pub cause_lines : ℕ → Cause → StreamBreak → List ℕ
+cause_lines n TooManyMessages at = []
+cause_lines n (Frame fault) at = guessed_lines n fault at
+cause_lines n (Output fault) at = []
+cause_lines n (Refused refusal) at = []
+cause_lines n (NotStrict fault) at = []
+cause_lines n (Canon fault) at = []
+cause_lines n no_marks at = []
 
 -- the line of a fault, and the lines that explain it
 abbrev pub explained_fault_text : ExplainedFault → List ℕ
-explained_fault_text fault = run_fault_line fault.fault ++ cause_lines fault.fault.cause fault.at
+explained_fault_text fault =
+    run_fault_line fault.fault ++ cause_lines fault.fault.message fault.fault.cause fault.at

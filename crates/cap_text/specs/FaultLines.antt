@@ -17,6 +17,8 @@ use Rattle.cap_text.specs.declared.fault.CopyFault.{CopyFault}
 use Rattle.cap_text.specs.declared.fault.CopyFault.TheVariants.{TooManyWords, Output as copy_output}
 use Rattle.cap_text.specs.declared.fault.CopyFault.TheVariants.{Source as copy_source}
 use Rattle.cap_text.specs.declared.fault.RunFault.{RunFault}
+use Rattle.cap_text.specs.declared.fault.SingleFault.{SingleFault}
+use Rattle.cap_text.specs.declared.fault.SingleFault.TheVariants.{NoMessage, Run, Trailing}
 
 -- the text for a message that can't be read
 abbrev pub frame_fault_text : FrameFault → List ℕ
@@ -65,6 +67,12 @@ fault_line n cause = codes "capvet: " ++ cause_text n cause ++ 10 ∷ []
 
 abbrev pub run_fault_line : RunFault → List ℕ
 run_fault_line fault = fault_line fault.message fault.cause
+
+-- the line for an input that isn't exactly one message
+abbrev pub single_fault_line : SingleFault → List ℕ
+single_fault_line NoMessage = codes "capvet: no message" ++ 10 ∷ []
+single_fault_line (Trailing byte) = codes "capvet: message 1: Trailing at byte" ++ then_number byte ++ 10 ∷ []
+single_fault_line (Run fault) = run_fault_line fault
 
 -- the text for a source that gave no word
 abbrev pub source_fault_text : SourceFault → List ℕ

@@ -1,6 +1,10 @@
 pub mod Dumping
 pub mod FaultLines
+pub mod Guesses
 pub mod BreakLines
+pub mod HashLines
+pub mod JsonLines
+pub mod DifferenceLines
 pub mod Lines
 pub mod Paging
 pub mod Writing

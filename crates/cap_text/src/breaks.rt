@@ -1,11 +1,12 @@
 //! The lines that explain why a stream breaks off.
 
-ghost use Rattle.cap_text.specs.BreakLines.{break_lines, bytes_line, cause_lines, cut_line, cut_lines, cut_part, cut_place, explained_fault_text, large_line, many_line, message_line, needed_text, of_packed_input, packed_note, reason_line, table_line, unpacked_note};
+ghost use Rattle.cap_text.specs.BreakLines.{break_lines, bytes_line, cause_lines, cut_line, cut_lines, cut_part, cut_place, explained_fault_text, guessed_lines, large_line, many_line, message_line, needed_text, of_packed_input, packed_note, reason_line, table_line, unpacked_note};
 ghost use Rattle.cap_text.specs.Writing.{Writes};
 ghost use Rattle.std.specs.Prelude.{◌*◌, ◌+◌, ◌++◌, ◌≡◌, ◌≤◌, length};
 
 use crate::fault::{Cause, ExplainedFault, StreamBreak};
 use crate::faults::{TEXT, fault_text};
+use crate::guess::{GUESS, break_guess, push_guess_line};
 use crate::page::{CAPACITY, DIGITS, Page, write_bytes};
 use cap_frame::{FrameFault, TableSums};
 use cap_words::{ByteOut, OutFault};
@@ -173,7 +174,8 @@ fn push_cut_line(page: &mut Page, at: &StreamBreak)
 /// Appends the lines of a message that is cut short at a byte.
 fn push_cut_lines(page: &mut Page, byte: u64, at: &StreamBreak)
     requires { length page.old + 2 * LINE ≤ CAPACITY }
-    ensures { page.new ≡ page.old ++ cut_lines byte at.now }
+    ensures items { page.new ≡ page.old ++ cut_lines byte at.now }
+    ensures few { length page.new ≤ length page.old + 2 * LINE }
 {
     push_bytes_line(page, byte, at);
     push_cut_line(page, at);
@@ -182,7 +184,8 @@ fn push_cut_lines(page: &mut Page, byte: u64, at: &StreamBreak)
 /// Appends the lines of a message that can't be read, after a line or more.
 fn push_break_lines(page: &mut Page, fault: FrameFault, at: &StreamBreak)
     requires { length page.old + LINES ≤ CAPACITY }
-    ensures { page.new ≡ page.old ++ break_lines fault at.now }
+    ensures items { page.new ≡ page.old ++ break_lines fault at.now }
+    ensures few { length page.new ≤ length page.old + LINES }
 {
     match fault {
         FrameFault::TooManySegments { count } => {
@@ -213,13 +216,22 @@ fn push_break_lines(page: &mut Page, fault: FrameFault, at: &StreamBreak)
     }
 }
 
-/// Appends the lines by why an engine ended.
-fn push_cause_lines(page: &mut Page, cause: Cause, at: &StreamBreak)
-    requires { length page.old + LINES ≤ CAPACITY }
-    ensures { page.new ≡ page.old ++ cause_lines cause at.now }
+/// Appends the lines on a message that can't be read, and the line of a guess.
+fn push_guessed_lines(page: &mut Page, message: u32, fault: FrameFault, at: &StreamBreak)
+    requires { length page.old + LINES + GUESS ≤ CAPACITY }
+    ensures { page.new ≡ page.old ++ guessed_lines message fault at.now }
+{
+    push_break_lines(page, fault, at);
+    push_guess_line(page, break_guess(message, fault, at));
+}
+
+/// Appends the lines by why an engine ended at a message.
+fn push_cause_lines(page: &mut Page, message: u32, cause: Cause, at: &StreamBreak)
+    requires { length page.old + LINES + GUESS ≤ CAPACITY }
+    ensures { page.new ≡ page.old ++ cause_lines message cause at.now }
 {
     match cause {
-        Cause::Frame(fault) => push_break_lines(page, fault, at),
+        Cause::Frame(fault) => push_guessed_lines(page, message, fault, at),
         Cause::TooManyMessages => {}
         Cause::Output(_) => {}
         Cause::Refused(_) => {}
@@ -234,13 +246,13 @@ fn explained_text(fault: &ExplainedFault) -> Page
     ensures { result ≡ explained_fault_text fault.now }
 {
     let mut page = fault_text(&fault.fault);
-    push_cause_lines(&mut page, fault.fault.cause, &fault.at);
+    push_cause_lines(&mut page, fault.fault.message, fault.fault.cause, &fault.at);
     page
 }
 
 /// Writes the line of an error that ended a run, as [`write_fault`](crate::write_fault) does, and
-/// after it the lines that explain why the stream breaks off (docs/output.md, explain). Allocates
-/// nothing.
+/// after it the lines that explain why the stream breaks off (docs/output.md, explain). If the input
+/// looks like one of another format, the last line says which, as a guess. Allocates nothing.
 ///
 /// # Errors
 ///

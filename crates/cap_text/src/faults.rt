@@ -1,10 +1,10 @@
 //! The lines of faults.
 
-ghost use Rattle.cap_text.specs.FaultLines.{canon_fault_text, cause_text, copy_fault_line, copy_fault_text as copy_text, fault_line, frame_fault_text, run_fault_line, source_fault_text};
+ghost use Rattle.cap_text.specs.FaultLines.{canon_fault_text, cause_text, copy_fault_line, copy_fault_text as copy_text, fault_line, frame_fault_text, run_fault_line, single_fault_line, source_fault_text};
 ghost use Rattle.cap_text.specs.Writing.{Writes};
 ghost use Rattle.std.specs.Prelude.{◌+◌, ◌++◌, ◌≡◌, ◌≤◌, length};
 
-use crate::fault::{Cause, CopyFault, RunFault};
+use crate::fault::{Cause, CopyFault, RunFault, SingleFault};
 use crate::page::{CAPACITY, NUMBER, Page, write_bytes};
 use crate::verdict::{FAULT, name_of, push_place, push_refused, refused_for};
 use cap_frame::FrameFault;
@@ -107,6 +107,45 @@ pub fn write_fault<E: ByteOut>(err: &mut E, fault: &RunFault) -> Result<(), OutF
     ensures { Writes E.ByteOut err.old err.new result (run_fault_line fault.now) }
 {
     write_bytes(err, fault_text(fault).text())
+}
+
+/// The line for an input without a message.
+fn no_message_text() -> Page
+    ensures { result ≡ single_fault_line SingleFault.NoMessage }
+{
+    let mut page = Page::new();
+    page.push_text(b"capvet: no message\n");
+    page
+}
+
+/// The line for an input that goes on after its first message.
+fn trailing_text(byte: u64) -> Page
+    ensures { result ≡ single_fault_line (SingleFault.Trailing byte) }
+{
+    let mut page = Page::new();
+    page.push_named(b"capvet: message 1: Trailing at byte ", byte);
+    page.push_text(b"\n");
+    page
+}
+
+/// Writes the line for an input that isn't exactly one message (docs/output.md, Standard error).
+/// Allocates nothing.
+///
+/// # Errors
+///
+/// The error of the output, which took a prefix of the line.
+///
+/// - [`OutFault::Device`]: the device failed. After it every write with bytes returns `Spent`.
+/// - [`OutFault::Memory`]: an allocation of the output failed. A later write may succeed.
+/// - [`OutFault::Spent`]: an earlier error had closed the output. It took nothing.
+pub fn write_single_fault<E: ByteOut>(err: &mut E, fault: &SingleFault) -> Result<(), OutFault>
+    ensures { Writes E.ByteOut err.old err.new result (single_fault_line fault.now) }
+{
+    match fault {
+        SingleFault::NoMessage => write_bytes(err, no_message_text().text()),
+        SingleFault::Trailing { byte } => write_bytes(err, trailing_text(*byte).text()),
+        SingleFault::Run(fault) => write_fault(err, fault),
+    }
 }
 
 /// Appends the text for a source that gave no word.

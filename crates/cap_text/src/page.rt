@@ -4,7 +4,8 @@ ghost use Rattle.cap_spec.specs.Texts.{hex, message_text};
 ghost use Rattle.cap_text.specs.FaultLines.{message_name};
 ghost use Rattle.cap_text.specs.Paging.{Added, Adds};
 ghost use Rattle.cap_text.specs.Writing.{Writes};
-ghost use Rattle.std.specs.Prelude.{◌+◌, ◌++◌, ◌<◌, ◌≤◌, [], ◌≡◌, List, OnOk, decimal, length, take, ℕ};
+ghost use Rattle.hex.specs.Hex.{encode_lower};
+ghost use Rattle.std.specs.Prelude.{◌*◌, ◌+◌, ◌++◌, ◌<◌, ◌≤◌, [], ◌≡◌, List, OnOk, decimal, length, take, ℕ};
 
 use cap_words::{ByteOut, OutFault, bytes_of, write_all};
 use itoa::write_digits;
@@ -22,6 +23,9 @@ pub(crate) const DIGITS: usize = 20;
 
 /// The space for the number of a message, with the text around it.
 pub(crate) const NUMBER: usize = 30;
+
+/// How many bytes a hash has: 256 bits.
+pub(crate) const HASH: usize = 32;
 
 /// Lines that aren't written yet, in a buffer of 4096 bytes. A caller keeps one page for many texts.
 /// Clearing it leaves the old bytes in the buffer, so that it costs nothing.
@@ -150,6 +154,19 @@ impl Page {
     {
         let end = self.len + 16;
         match hex::encode_to_slice(bytes_of(word), &mut self.bytes[self.len..end]) {
+            Ok(()) => self.len = end,
+            Err(_) => unreachable!(),
+        }
+    }
+
+    /// Appends the two hexadecimal digits of each byte of a hash.
+    pub(crate) fn push_hash(&mut self, hash: &[u8; HASH])
+        requires { length self.old + 2 * HASH ≤ CAPACITY }
+        ensures items { self.new ≡ self.old ++ encode_lower hash.now }
+        ensures len { length self.new ≡ length self.old + 2 * HASH }
+    {
+        let end = self.len + 2 * HASH;
+        match hex::encode_to_slice(hash, &mut self.bytes[self.len..end]) {
             Ok(()) => self.len = end,
             Err(_) => unreachable!(),
         }
