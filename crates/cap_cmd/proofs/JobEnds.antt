@@ -1,7 +1,9 @@
 -- What a job did, and what it did whose status is that of success.
 use Rattle.cap_spec.specs.declared.CanonFault.TheVariants.{HasCapability, Memory as canon_memory}
-use Rattle.cap_spec.proofs.ProofNames.{Bool, Err, List, None, Ok, Option, Result, Some, arith, false, length, subst, sym}
-use Rattle.cap_spec.proofs.ProofNames.{true, ℕ, ◌∙◌, ◌≡◌, ◌≤◌, Appends, Keeps, append_known, pack_text, plain_text}
+use Rattle.cap_spec.proofs.ProofNames.{Bool, Err, List, None, Ok, Option, Result, Some, [], ap, arith, false, inl, inr}
+use Rattle.cap_spec.proofs.ProofNames.{length, refl, subst, sym, true, ℕ, ◌∙◌, ◌∷◌, ◌≡◌, ◌≤◌, Appends, Keeps, append_known}
+use Rattle.cap_spec.proofs.ProofNames.{pack_text, plain_text}
+use Rattle.cap_words.specs.declared.vec_out.VecOut.{VecOut}
 use Rattle.cap_words.specs.declared.sources.SourceFault.TheVariants.{Device as source_device, Spent as source_broken}
 use Rattle.cap_words.specs.declared.sources.SourceFault.TheVariants.{Truncated as source_truncated}
 use Rattle.cap_frame.specs.Limit.{limit_of}
@@ -15,11 +17,19 @@ use Rattle.cap_text.specs.declared.fault.Cause.TheVariants.{Canon, Frame, NotStr
 use Rattle.cap_text.specs.declared.fault.Cause.TheVariants.{Memory as no_marks}
 use Rattle.cap_text.specs.declared.fault.CopyFault.{CopyFault}
 use Rattle.cap_text.specs.declared.fault.CopyFault.TheVariants.{Source, TooManyWords, Output as copy_output}
+use Rattle.cap_text.specs.declared.fault.ExplainedFault.{ExplainedFault}
 use Rattle.cap_text.specs.declared.fault.RunFault.{RunFault}
+use Rattle.cap_text.specs.declared.fault.SingleFault.{SingleFault}
+use Rattle.cap_text.specs.declared.fault.SingleFault.TheVariants.{NoMessage, Run, Trailing}
 use Rattle.cap_run.specs.Breaking.{run_answer}
 use Rattle.cap_run.specs.Demanding.{no_demands}
 use Rattle.cap_run.specs.Placed.{PlacedReports, ReportsFrom, ReportsPlaced}
 use Rattle.cap_run.specs.Filtering.{FiltersStream}
+use Rattle.cap_run.specs.Hashing.{AllocatesCopyUnder, ReportsDigestUnder, ReportsHashUnder}
+use Rattle.cap_run.specs.ExplainedJson.{OrFaultExplained, ReportsAcceptedObject, ReportsMarkedExplained}
+use Rattle.cap_run.specs.JsonReports.{OrFaultJson, ReportsAcceptedJson, ReportsCheckedJson, ReportsHashedJson, ReportsMarkedJson}
+use Rattle.cap_run.specs.Single.{ReadsSingle, frame_bytes}
+use Rattle.cap_run.specs.Streams.{EndsStream}
 use Rattle.cap_run.specs.RunNames.{copies_of, ReportsCheckUnder, ReportsDumpUnder, ReportsExclusiveUnder, ReportsGetUnder}
 use Rattle.cap_run.specs.RunNames.{ReportsVerdictUnder, AllocatesMarksUnder, ReportsStream, most_packed_at_once, most_transcoded}
 use Rattle.cap_run.specs.RunNames.{most_unpacked_at_once, ReportsExplainedExclusiveUnder, ReportsExplainedUnder, PassesOn}
@@ -29,10 +39,12 @@ use Rattle.cap_run.specs.declared.settings.FilterForm.{FilterForm}
 use Rattle.cap_run.specs.declared.settings.Outcome.{Outcome}
 use Rattle.cap_run.specs.declared.settings.Settings.{Settings}
 use Rattle.cap_run.proofs.FilterEnds.{reads_whole}
-use Rattle.cap_cmd.specs.Jobs.{CanonsInput, CanonsTo, DoesJob, DoesTask, DoesUnder, PlacesInput, ReportsInput, TranscodesInput, TranscodesTo}
-use Rattle.cap_cmd.specs.Jobs.{WritesAll, WritesInput, WritesUnder, input_is_cut, input_words}
-use Rattle.cap_cmd.specs.Statuses.{cause_status, frame_status, outcome_status, run_status, transcode_status}
+use Rattle.cap_run.proofs.Streams.{reads_all}
+use Rattle.cap_cmd.specs.Jobs.{CanonsInput, CanonsTo, DoesFirst, DoesJob, DoesOne, DoesTask, DoesUnder, EndsOne, ExitsFirst, PlacesInput, ReportsInput, TranscodesInput, TranscodesTo}
+use Rattle.cap_cmd.specs.Jobs.{WritesAll, WritesInput, WritesOne, WritesUnder, input_is_cut, input_words}
+use Rattle.cap_cmd.specs.Statuses.{cause_status, frame_status, outcome_status, run_status, single_status, transcode_status}
 use Rattle.cap_cmd.specs.declared.jobs.Job.{Job}
+use Rattle.cap_cmd.specs.declared.jobs.JsonReport.TheVariants as report
 use Rattle.cap_cmd.specs.declared.jobs.Task.{Task}
 use Rattle.cap_cmd.specs.declared.jobs.Task.TheVariants as task
 use Rattle.cap_cmd.specs.declared.jobs.Work.{Work}
@@ -78,6 +90,11 @@ cause_fails (NotStrict fault) e = cc
 cause_fails (Canon (HasCapability s w)) e = cc
 cause_fails (Canon canon_memory) e = cc
 cause_fails no_marks e = cc
+
+single_fails : (fault : SingleFault) → single_status fault ≡ 0 → ⊥
+single_fails NoMessage e = cc
+single_fails (Trailing byte) e = cc
+single_fails (Run fault) e = cause_fails fault.cause e
 
 -- with it no message was refused
 none_refused : (o : Outcome) → outcome_status o ≡ 0 → o.refused ≡ 0
@@ -187,11 +204,11 @@ module _ {S O E U : Type 0} (gs : source.Ghosts S) (go : output.Ghosts O) (ge : 
       reported_all gs go s first d.last (ReportsExclusiveUnder demands (words_of s.limits) (depth_of s.limits))
       (AllocatesMarksUnder demands (words_of s.limits) (depth_of s.limits)) before after d.answer
       (sym d.exited.status_is ∙ e) d.does
-  writes_under demands (work.Explain false) packed s first before after old new status e d =
-      placed_all gs go s first d.last (ReportsExplainedUnder packed demands (words_of s.limits) (depth_of s.limits)) AllocatesNone
+  writes_under demands (work.Explain false canonical) packed s first before after old new status e d =
+      placed_all gs go s first d.last (ReportsExplainedUnder packed canonical demands (words_of s.limits) (depth_of s.limits)) AllocatesNone
       before after (run_answer d.answer) (sym d.exited.status_is ∙ e) d.does.reported
-  writes_under demands (work.Explain true) packed s first before after old new status e d =
-      placed_all gs go s first d.last (ReportsExplainedExclusiveUnder packed demands (words_of s.limits) (depth_of s.limits))
+  writes_under demands (work.Explain true canonical) packed s first before after old new status e d =
+      placed_all gs go s first d.last (ReportsExplainedExclusiveUnder packed canonical demands (words_of s.limits) (depth_of s.limits))
       (AllocatesMarksUnder demands (words_of s.limits) (depth_of s.limits)) before after (run_answer d.answer)
       (sym d.exited.status_is ∙ e) d.does.reported
   writes_under demands (work.Filter form) packed s first before after old new status e d =
@@ -208,13 +225,99 @@ module _ {S O E U : Type 0} (gs : source.Ghosts S) (go : output.Ghosts O) (ge : 
       before after d.answer (sym d.exited.status_is ∙ e) d.does
   writes_under demands work.Canon packed s first before after old new status e d =
       all_made gs go s first d.last gu demands before after d.answer (sym d.exited.status_is ∙ e) d.does
+  writes_under demands (work.Hash false) packed s first before after old new status e d =
+      reported_all gs go s first d.last (ReportsHashUnder demands (words_of s.limits) (depth_of s.limits))
+      (AllocatesCopyUnder demands (words_of s.limits) (depth_of s.limits)) before after d.answer
+      (sym d.exited.status_is ∙ e) d.does
+  writes_under demands (work.Hash true) packed s first before after old new status e d =
+      reported_all gs go s first d.last (ReportsDigestUnder demands (words_of s.limits) (depth_of s.limits))
+      (AllocatesCopyUnder demands (words_of s.limits) (depth_of s.limits)) before after d.answer
+      (sym d.exited.status_is ∙ e) d.does
+  writes_under demands (work.Json (report.Vet false)) packed s first before after old new status e d =
+      reported_all gs go s first d.last (OrFaultJson demands ReportsAcceptedJson s.limits) AllocatesNone before after d.answer
+      (sym d.exited.status_is ∙ e) d.does
+  writes_under demands (work.Json (report.Vet true)) packed s first before after old new status e d =
+      reported_all gs go s first d.last (OrFaultJson demands ReportsMarkedJson s.limits)
+      (AllocatesMarksUnder demands (words_of s.limits) (depth_of s.limits)) before after d.answer
+      (sym d.exited.status_is ∙ e) d.does
+  writes_under demands (work.Json (report.Explain false canonical)) packed s first before after old new status e d =
+      placed_all gs go s first d.last (OrFaultExplained demands (ReportsAcceptedObject canonical) s.limits) AllocatesNone
+      before after (run_answer d.answer) (sym d.exited.status_is ∙ e) d.does.reported
+  writes_under demands (work.Json (report.Explain true canonical)) packed s first before after old new status e d =
+      placed_all gs go s first d.last (OrFaultExplained demands (ReportsMarkedExplained canonical) s.limits)
+      (AllocatesMarksUnder demands (words_of s.limits) (depth_of s.limits)) before after (run_answer d.answer)
+      (sym d.exited.status_is ∙ e) d.does.reported
+  writes_under demands (work.Json report.Check) packed s first before after old new status e d =
+      reported_all gs go s first d.last (OrFaultJson demands ReportsCheckedJson s.limits) AllocatesNone before after d.answer
+      (sym d.exited.status_is ∙ e) d.does
+  writes_under demands (work.Json report.Hash) packed s first before after old new status e d =
+      reported_all gs go s first d.last (OrFaultJson demands ReportsHashedJson s.limits)
+      (AllocatesCopyUnder demands (words_of s.limits) (depth_of s.limits)) before after d.answer
+      (sym d.exited.status_is ∙ e) d.does
 
-module _ {S O E P U : Type 0} (gs : source.Ghosts S) (go : output.Ghosts O) (ge : output.Ghosts E)
+module _ {E : Type 0} (ge : output.Ghosts E) where
+  -- no fault of reading the first message has that status
+  first_fails : (w : Work) (packed : Bool) (fault : ExplainedFault) (old new : E) (status : ℕ) → status ≡ 0
+      → ExitsFirst ge w packed fault old new status → ⊥
+  first_fails (work.Vet exclusive) packed fault old new status e x = cause_fails fault.fault.cause (sym x.status_is ∙ e)
+  first_fails (work.Explain exclusive canonical) packed fault old new status e x = cause_fails fault.fault.cause (sym x.status_is ∙ e)
+  first_fails (work.Filter form) packed fault old new status e x = cause_fails fault.fault.cause (sym x.status_is ∙ e)
+  first_fails work.Dump packed fault old new status e x = cause_fails fault.fault.cause (sym x.status_is ∙ e)
+  first_fails (work.Get path) packed fault old new status e x = cause_fails fault.fault.cause (sym x.status_is ∙ e)
+  first_fails work.Check packed fault old new status e x = cause_fails fault.fault.cause (sym x.status_is ∙ e)
+  first_fails work.Canon packed fault old new status e x = cause_fails fault.fault.cause (sym x.status_is ∙ e)
+  first_fails (work.Hash alone) packed fault old new status e x = cause_fails fault.fault.cause (sym x.status_is ∙ e)
+  first_fails (work.Json (report.Vet exclusive)) packed fault old new status e x = cause_fails fault.fault.cause (sym x.status_is ∙ e)
+  first_fails (work.Json (report.Explain exclusive canonical)) packed fault old new status e x = cause_fails fault.fault.cause (sym x.status_is ∙ e)
+  first_fails (work.Json report.Check) packed fault old new status e x = cause_fails fault.fault.cause (sym x.status_is ∙ e)
+  first_fails (work.Json report.Hash) packed fault old new status e x = cause_fails fault.fault.cause (sym x.status_is ∙ e)
+
+module _ {S E : Type 0} (gs : source.Ghosts S) (ge : output.Ghosts E) where
+  -- with the status of success the work had it too, and the input ended
+  ends_well : (done : ℕ) (mid last : S) (old new : E) (status : ℕ) → status ≡ 0 → EndsOne gs ge done mid last old new status
+      → (done ≡ 0) × EndsStream gs mid last
+  ends_well done mid last old new status e (inl f) = absurd (let is = f.3 in cc)
+  ends_well done mid last old new status e (inr (differs, (Ok ended, ends, kept))) = (sym kept.1 ∙ e, ends.ok)
+  ends_well done mid last old new status e (inr (differs, (Err fault, ends, x))) =
+      absurd (single_fails fault (sym x.status_is ∙ e))
+
+module _ {S F O E U : Type 0} (gs : source.Ghosts S) (gf : source.Ghosts F) (go : output.Ghosts O) (ge : output.Ghosts E)
+    (gu : sink.Ghosts U) (demands : Demands) (w : Work) (packed : Bool) (s : Settings) where
+  -- what was written of the one message of an input
+  one_all : (first : S) (before after : O) (old new : E) (status : ℕ) → status ≡ 0
+      → DoesOne gs gf go ge gu demands w packed s first before after old new status
+      → WritesOne demands w packed s (gs.words first) (gs.is_cut first) (go.written before) (go.written after)
+  one_all first before after old new status e d = of d.answer d.reads d.does
+    where
+      of : (answer : Result (Option VecOut) ExplainedFault) → ReadsSingle gs packed (limit_of s.size) first d.mid answer
+          → DoesFirst gs gf go ge gu demands w packed s answer d.mid d.last before after old new status
+          → WritesOne demands w packed s (gs.words first) (gs.is_cut first) (go.written before) (go.written after)
+      of (Ok (Some frame)) reads (over, between, done, begins, does, ends) =
+          let message = reads.message frame refl in
+          let over_well = ends_well gs ge done d.mid d.last between new status e ends in
+          let all = reads_all gs (limit_of s.size) first d.mid d.last (message.0 ∷ []) message.1 over_well.1 in
+          let written = writes_under gf go ge gu demands w packed s over before after old between done over_well.0 does in
+          let words = begins.words ∙ ap (λ b. input_words false b) message.2 in
+          let cut = begins.is_cut ∙ ap (λ b. input_is_cut false b) message.2 in
+          record {
+            own = all.own;
+            all = all.all;
+            message = message.0;
+            stream = all.stream;
+            within = all.within.0;
+            written = subst (λ c. WritesUnder demands w packed s (input_words false (Some (frame_bytes message.0))) c
+                (go.written before) (go.written after)) cut
+                (subst (λ ws. WritesUnder demands w packed s ws (gf.is_cut over) (go.written before) (go.written after)) words written);
+          }
+      of (Ok None) reads does = absurd (single_fails NoMessage (sym does.2.status_is ∙ e))
+      of (Err fault) reads does = absurd (first_fails ge w packed fault old new status e does.2)
+
+module _ {S F O E P U : Type 0} (gs : source.Ghosts S) (gf : source.Ghosts F) (go : output.Ghosts O) (ge : output.Ghosts E)
     (gp : sink.Ghosts P) (gu : sink.Ghosts U) where
   -- what a task with the status of success wrote
   writes_all : (t : Task) (packed : Bool) (s : Settings) (first : S) (before after : O) (old new : E)
       (status : ℕ) → status ≡ 0
-      → DoesTask gs go ge gp gu t packed s first before after old new status
+      → DoesTask gs gf go ge gp gu t packed s first before after old new status
       → WritesAll t packed s (gs.words first) (gs.is_cut first) (go.written before) (go.written after)
   writes_all task.Segments packed s first before after old new status e d =
       reported_all gs go s first d.last ReportsSegments AllocatesNone before after d.answer (sym d.exited.status_is ∙ e) d.does.reported
@@ -230,6 +333,8 @@ module _ {S O E P U : Type 0} (gs : source.Ghosts S) (go : output.Ghosts O) (ge 
       writes_under gs go ge gu no_demands work.Canon packed s first before after old new status e d
   writes_all (task.Under demands w) packed s first before after old new status e d =
       writes_under gs go ge gu demands w packed s first before after old new status e d
+  writes_all (task.One demands w) packed s first before after old new status e d =
+      one_all gs gf go ge gu demands w packed s first before after old new status e d
   writes_all task.Pack packed s first before after old new status e d =
       all_copied gs go s first d.last gp pack_text most_packed_at_once before after d.answer
       (sym d.exited.status_is ∙ e) d.does
@@ -237,17 +342,17 @@ module _ {S O E P U : Type 0} (gs : source.Ghosts S) (go : output.Ghosts O) (ge 
       all_copied gs go s first d.last gu plain_text most_unpacked_at_once before after d.answer
       (sym d.exited.status_is ∙ e) d.does
 
-module _ {S O E P U : Type 0} {gs : source.Ghosts S} {go : output.Ghosts O} {ge : output.Ghosts E}
+module _ {S F O E P U : Type 0} {gs : source.Ghosts S} {gf : source.Ghosts F} {go : output.Ghosts O} {ge : output.Ghosts E}
     {gp : sink.Ghosts P} {gu : sink.Ghosts U} where
   -- and what a job wrote
   pub job_writes_all : {I : Type 0} {gi : input.Ghosts I} {is_packed packed : Bool} {job : Job}
       {start : I} {before after : O} {old new : E} {status : ℕ} → is_packed ≡ packed → status ≡ 0
-      → DoesJob gi gs go ge gp gu packed job start before after old new status
+      → DoesJob gi gs gf go ge gp gu packed job start before after old new status
       → WritesAll job.task job.packed job.settings (input_words is_packed (gi.to_come start))
       (input_is_cut is_packed (gi.to_come start)) (go.written before) (go.written after)
   job_writes_all {gi = gi} {packed = packed} {job = job} {start = start} {before = before} {after = after} {old = old}
       {new = new} {status = status} same e j =
-      let written = writes_all gs go ge gp gu job.task job.packed job.settings j.first before after old new status e j.does in
+      let written = writes_all gs gf go ge gp gu job.task job.packed job.settings j.first before after old new status e j.does in
       let cut = subst (λ c. WritesAll job.task job.packed job.settings (gs.words j.first) c (go.written before)
       (go.written after))
       j.begins.is_cut written in

@@ -1,1 +1,5 @@
+pub mod Digits
 pub mod JobEnds
+pub mod Marking
+pub mod PuttingMarks
+pub mod SameMarks

@@ -1,5 +1,5 @@
 -- What the commands and options of a command line ask (profile).
-use Rattle.std.specs.Prelude.{Bool, List, codes, if◌then◌else◌, not, ℕ, ◌||◌, ◌≡◌, ◌≤◌}
+use Rattle.std.specs.Prelude.{Bool, List, codes, false, if◌then◌else◌, not, true, ℕ, ◌||◌, ◌≡◌, ◌≤◌}
 use Rattle.std.specs.Global.{Vec}
 use Rattle.cap_spec.specs.GreatestLimits.{most_depth, most_words}
 use Rattle.cap_spec.specs.declared.Step.{Step}
@@ -13,6 +13,8 @@ use Rattle.cap_cmd.specs.declared.asking.Command.{Command}
 use Rattle.cap_cmd.specs.declared.asking.Command.TheVariants as command
 use Rattle.cap_cmd.specs.declared.asking.Options.{Options}
 use Rattle.cap_cmd.specs.declared.jobs.Job.{Job}
+use Rattle.cap_cmd.specs.declared.jobs.JsonReport.{JsonReport}
+use Rattle.cap_cmd.specs.declared.jobs.JsonReport.TheVariants as report
 use Rattle.cap_cmd.specs.declared.jobs.Task.{Task}
 use Rattle.cap_cmd.specs.declared.jobs.Task.TheVariants as task
 use Rattle.cap_cmd.specs.declared.jobs.Work.{Work}
@@ -28,6 +30,7 @@ command_name command.Dump = codes "dump"
 command_name command.Get = codes "get"
 command_name command.Check = codes "check"
 command_name command.Canon = codes "canon"
+command_name command.Hash = codes "hash"
 command_name command.Pack = codes "pack"
 command_name command.Unpack = codes "unpack"
 
@@ -45,6 +48,7 @@ demands_asked command.Dump o = demands_given o
 demands_asked command.Get o = demands_given o
 demands_asked command.Check o = demands_given o
 demands_asked command.Canon o = demands_given o
+demands_asked command.Hash o = demands_given o
 demands_asked command.Pack o = demands_given o
 demands_asked command.Unpack o = demands_given o
 
@@ -55,29 +59,41 @@ form_asked o = record { exclusive = o.exclusive; stop = o.stop; pack = o.pack }
 -- work without demands, as a task
 abbrev pub plain_task : Work → Task
 plain_task (work.Vet exclusive) = task.Vet exclusive
-plain_task (work.Explain exclusive) = task.Under no_demands (work.Explain exclusive)
+plain_task (work.Explain exclusive canonical) = task.Under no_demands (work.Explain exclusive canonical)
 plain_task (work.Filter form) = task.Under no_demands (work.Filter form)
 plain_task work.Dump = task.Dump
 plain_task (work.Get path) = task.Get path
 plain_task work.Check = task.Check
 plain_task work.Canon = task.Canon
+plain_task (work.Hash alone) = task.Under no_demands (work.Hash alone)
+plain_task (work.Json reported) = task.Under no_demands (work.Json reported)
 
--- work under demands, as a task
-abbrev pub task_under : Demands → Work → Task
-task_under demands w = if demands.strict || demands.unamplified then task.Under demands w else plain_task w
+-- the work that writes JSON objects with this report, if that is asked, or else other work
+abbrev pub or_json : Bool → JsonReport → Work → Work
+or_json json reported w = if json then work.Json reported else w
+
+-- work under demands, as a task: over exactly one message, or over a stream
+abbrev pub task_under : Demands → Bool → Work → Task
+task_under demands true w = task.One demands w
+task_under demands false w = if demands.strict || demands.unamplified then task.Under demands w else plain_task w
 
 -- the task of a command, with this path for `get`
 abbrev pub task_asked : Command → Options → Vec Step → Task
 task_asked command.Segments o path = task.Segments
 task_asked command.Pack o path = task.Pack
 task_asked command.Unpack o path = task.Unpack
-task_asked command.Vet o path = task_under (demands_asked command.Vet o) (work.Vet o.exclusive)
-task_asked command.Explain o path = task_under (demands_asked command.Explain o) (work.Explain o.exclusive)
-task_asked command.Filter o path = task_under (demands_asked command.Filter o) (work.Filter (form_asked o))
-task_asked command.Dump o path = task_under (demands_asked command.Dump o) work.Dump
-task_asked command.Get o path = task_under (demands_asked command.Get o) (work.Get path)
-task_asked command.Check o path = task_under (demands_asked command.Check o) work.Check
-task_asked command.Canon o path = task_under (demands_asked command.Canon o) work.Canon
+task_asked command.Vet o path =
+    task_under (demands_asked command.Vet o) o.one (or_json o.json (report.Vet o.exclusive) (work.Vet o.exclusive))
+task_asked command.Explain o path =
+    task_under (demands_asked command.Explain o) o.one
+    (or_json o.json (report.Explain o.exclusive o.canonical) (work.Explain o.exclusive o.canonical))
+task_asked command.Filter o path = task_under (demands_asked command.Filter o) o.one (work.Filter (form_asked o))
+task_asked command.Dump o path = task_under (demands_asked command.Dump o) o.one work.Dump
+task_asked command.Get o path = task_under (demands_asked command.Get o) o.one (work.Get path)
+task_asked command.Check o path = task_under (demands_asked command.Check o) o.one (or_json o.json report.Check work.Check)
+task_asked command.Canon o path = task_under (demands_asked command.Canon o) o.one work.Canon
+task_asked command.Hash o path =
+    task_under (demands_asked command.Hash o) o.one (or_json o.json report.Hash (work.Hash o.one))
 
 -- each limit is one that there can be
 abbrev pub IsInRange : Options → Type 0

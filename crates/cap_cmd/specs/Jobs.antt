@@ -1,30 +1,40 @@
 -- What a job does: its engine returns an answer over the words of its input. The status and the
 -- line of a fault report that answer (profile). The members of types have the letters of types. gi
--- is of the input's, and gs of the source's over it. Those of the two outputs' are go and ge. That
--- of a packer's over the first is gp, and that of a plain sink's is gu.
+-- is of the input's, and gs of the source's over it. That of a source over bytes in memory is gf.
+-- Those of the two outputs' are go and ge. That of a packer's over the first is gp, and that of a plain
+-- sink's is gu.
 use Rattle.std.specs.Io.KnownBytes.{Appends, append_known}
 use Rattle.std.specs.List.{AllByRecursion}
 use Rattle.std.specs.Prelude.{Bool, Err, List, Ok, OnSome, Option, Result, Some, [], false, if◌then◌else◌, length}
-use Rattle.std.specs.Prelude.{option_map, sum, true, unwrap_or, ℕ, ◌||◌, ◌≡◌, ◌≤◌}
+use Rattle.std.specs.Prelude.{None, option_map, sum, true, unwrap_or, ℕ, ◌||◌, ◌∷◌, ◌≡◌, ◌≢◌, ◌≤◌, ◌⊎◌}
 use Rattle.cap_spec.specs.PackedEnds.{packed_ends}
 use Rattle.cap_spec.specs.Plain.{plain_ends}
 use Rattle.cap_spec.specs.SpecNames.{Stream, sizes_of, pack_text, plain_is_cut, plain_text, plain_words, packed_is_cut}
 use Rattle.cap_spec.specs.SpecNames.{unpacked}
+use Rattle.cap_words.specs.Vectors.{vec_written}
 use Rattle.cap_words.specs.declared.ends.OutFault.{OutFault}
+use Rattle.cap_words.specs.declared.vec_out.VecOut.{VecOut}
 use Rattle.cap_frame.specs.Limit.{limit_of}
 use Rattle.cap_vet.specs.Limits.{depth_of, words_of}
 use Rattle.cap_vet.specs.declared.demands.Demands.{Demands}
 use Rattle.cap_text.specs.BreakLines.{explained_fault_text}
-use Rattle.cap_text.specs.FaultLines.{copy_fault_line, run_fault_line}
+use Rattle.cap_text.specs.FaultLines.{copy_fault_line, run_fault_line, single_fault_line}
+use Rattle.cap_text.specs.Guesses.{guessed_fault_text}
 use Rattle.cap_text.specs.Writing.{Writes}
 use Rattle.cap_text.specs.declared.fault.CopyFault.{CopyFault}
 use Rattle.cap_text.specs.declared.fault.ExplainedFault.{ExplainedFault}
 use Rattle.cap_text.specs.declared.fault.RunFault.{RunFault}
+use Rattle.cap_text.specs.declared.fault.SingleFault.{SingleFault}
+use Rattle.cap_text.specs.declared.fault.SingleFault.TheVariants.{NoMessage}
 use Rattle.cap_run.specs.Breaking.{ExplainsStream, run_answer}
 use Rattle.cap_run.specs.Placed.{PlacedReports, ReportsFrom}
 use Rattle.cap_run.specs.Demanding.{no_demands}
 use Rattle.cap_run.specs.Engines.{ShowsStream}
+use Rattle.cap_run.specs.Hashing.{AllocatesCopyUnder, ReportsDigestUnder, ReportsHashUnder}
+use Rattle.cap_run.specs.Single.{EndsSingle, ReadsSingle, frame_bytes}
 use Rattle.cap_run.specs.Filtering.{FiltersUnder}
+use Rattle.cap_run.specs.ExplainedJson.{OrFaultExplained, ReportsAcceptedObject, ReportsMarkedExplained}
+use Rattle.cap_run.specs.JsonReports.{OrFaultJson, ReportsAcceptedJson, ReportsCheckedJson, ReportsHashedJson, ReportsMarkedJson}
 use Rattle.cap_run.specs.RunNames.{AreCanonised, Canonised, MakesCopiesUnder, canonised, copies_of, ReportsCheckUnder}
 use Rattle.cap_run.specs.RunNames.{ReportsDumpUnder, ReportsExclusiveUnder, ReportsGetUnder, ReportsVerdictUnder}
 use Rattle.cap_run.specs.RunNames.{AllocatesMarksUnder, ReportsStream, TranscodesWords, most_packed_at_once, most_transcoded}
@@ -34,8 +44,9 @@ use Rattle.cap_run.specs.RunNames.{noncanonical_in, refused_in, texts_of}
 use Rattle.cap_run.specs.declared.settings.FilterForm.{FilterForm}
 use Rattle.cap_run.specs.declared.settings.Outcome.{Outcome}
 use Rattle.cap_run.specs.declared.settings.Settings.{Settings}
-use Rattle.cap_cmd.specs.Statuses.{run_status, transcode_status}
+use Rattle.cap_cmd.specs.Statuses.{failed_status, run_status, single_status, transcode_status}
 use Rattle.cap_cmd.specs.declared.jobs.Job.{Job}
+use Rattle.cap_cmd.specs.declared.jobs.JsonReport.TheVariants as report
 use Rattle.cap_cmd.specs.declared.jobs.Task.{Task}
 use Rattle.cap_cmd.specs.declared.jobs.Task.TheVariants as task
 use Rattle.cap_cmd.specs.declared.jobs.Work.{Work}
@@ -54,6 +65,7 @@ is_packed (task.Get path) asked = asked
 is_packed task.Check asked = asked
 is_packed task.Canon asked = asked
 is_packed (task.Under demands w) asked = asked
+is_packed (task.One demands w) asked = asked
 is_packed task.Pack asked = false
 is_packed task.Unpack asked = true
 
@@ -125,6 +137,24 @@ module _ {S O K : Type 0} (gs : source.Ghosts S) (go : output.Ghosts O) (gk : si
   TranscodesTo text at_once first last before after answer = PutsTo go gk text before after
       (λ begun ended. TranscodesWords gs gk at_once most_transcoded first last begun ended answer)
 
+-- whether work is to explain each refusal
+abbrev pub explains : Work → Bool
+explains (work.Explain exclusive canonical) = true
+explains (work.Json (report.Explain exclusive canonical)) = true
+explains _ = false
+
+-- whether work says what an input of another format looks like, without an explanation
+abbrev pub guesses : Work → Bool
+guesses (work.Filter form) = true
+guesses (work.Hash alone) = true
+guesses (work.Json report.Hash) = true
+guesses _ = false
+
+-- the status of what comes after the one message of an input
+abbrev pub rest_status : Result (Unit {0}) SingleFault → ℕ
+rest_status (Ok ended) = 0
+rest_status (Err fault) = single_status fault
+
 module _ {E : Type 0} (ge : output.Ghosts E) where
   -- The line of a fault was written, or a prefix of it if this output failed. Without a fault
   -- nothing was written.
@@ -143,9 +173,29 @@ module _ {E : Type 0} (ge : output.Ghosts E) where
   abbrev pub ExitsRun : Result Outcome RunFault → E → E → ℕ → Type 0
   ExitsRun = Exits run_status run_fault_line
 
+  -- the same, with a line of a guess after that of a fault, by whether the input is read as packed
+  abbrev pub ExitsGuessed : Bool → Result Outcome RunFault → E → E → ℕ → Type 0
+  ExitsGuessed packed = Exits run_status (guessed_fault_text packed)
+
   -- the answer of an engine that explains: after the line of a fault come the lines that explain it
   abbrev pub ExitsExplained : Result Outcome ExplainedFault → E → E → ℕ → Type 0
   ExitsExplained = Exits (λ answer. run_status (run_answer answer)) explained_fault_text
+
+  -- the fault with which reading the first message ended, by whether it is explained, and whether the
+  -- format is guessed
+  abbrev pub ExitsUnread : Bool → Bool → Bool → ExplainedFault → E → E → ℕ → Type 0
+  ExitsUnread true guessed packed fault = ExitsExplained (Err fault)
+  ExitsUnread false true packed fault = ExitsGuessed packed (Err fault.fault)
+  ExitsUnread false false packed fault = ExitsRun (Err fault.fault)
+
+  -- both by the work
+  abbrev pub ExitsFirst : Work → Bool → ExplainedFault → E → E → ℕ → Type 0
+  ExitsFirst w = ExitsUnread (explains w) (guesses w)
+
+  -- an input that isn't exactly one message
+  abbrev pub ExitsSingle : SingleFault → E → E → ℕ → Type 0
+  ExitsSingle fault old new status = Exits {A = Unit {0}} {F = SingleFault} rest_status single_fault_line (Err fault)
+      old new status
 
   -- the answer of an engine over words
   abbrev pub ExitsCopy : Result ℕ CopyFault → E → E → ℕ → Type 0
@@ -169,6 +219,14 @@ module _ {S O E : Type 0} (gs : source.Ghosts S) (go : output.Ghosts O) (ge : ou
       after answer)
       (ExitsRun ge)
 
+  -- the same, where a fault of the format comes with a guess
+  abbrev pub GuessesTask : Reports → (List (List ℕ) → Type 0) → Bool → Settings → S → O → O → E → E → ℕ
+      → Type 0
+  GuessesTask reports allocates packed s first before after = Runs
+      (λ last answer. ReportsStream gs go reports allocates (limit_of s.size) s.messages first last before
+      after answer)
+      (ExitsGuessed ge packed)
+
   -- an engine that explains
   abbrev pub ExplainsTask : PlacedReports → (List (List ℕ) → Type 0) → Bool → Settings → S → O → O → E → E
       → ℕ → Type 0
@@ -178,11 +236,11 @@ module _ {S O E : Type 0} (gs : source.Ghosts S) (go : output.Ghosts O) (ge : ou
       (ExitsExplained ge)
 
   -- The engine that lets accepted messages through writes the lines of the others before `mid`. Its
-  -- answer is reported after them.
-  abbrev pub FiltersTask : FilterForm → Settings → Demands → S → O → O → E → E → ℕ → Type 0
-  FiltersTask form s demands first before after old new status = (mid : E) × Runs
+  -- answer is reported after them, with a guess.
+  abbrev pub FiltersTask : FilterForm → Bool → Settings → Demands → S → O → O → E → E → ℕ → Type 0
+  FiltersTask form packed s demands first before after old new status = (mid : E) × Runs
       (λ last answer. FiltersUnder gs go ge s first last before after old mid form demands answer)
-      (ExitsRun ge) mid new status
+      (ExitsGuessed ge packed) mid new status
 
 module _ {S O E K : Type 0} (gs : source.Ghosts S) (go : output.Ghosts O) (ge : output.Ghosts E)
     (gk : sink.Ghosts K) where
@@ -208,15 +266,15 @@ module _ {S O E U : Type 0} (gs : source.Ghosts S) (go : output.Ghosts O) (ge : 
   DoesUnder demands (work.Vet true) packed s first before after =
       ReportsTask gs go ge (ReportsExclusiveUnder demands (words_of s.limits) (depth_of s.limits))
       (AllocatesMarksUnder demands (words_of s.limits) (depth_of s.limits)) s first before after
-  DoesUnder demands (work.Explain false) packed s first before after =
-      ExplainsTask gs go ge (ReportsExplainedUnder packed demands (words_of s.limits) (depth_of s.limits))
+  DoesUnder demands (work.Explain false canonical) packed s first before after =
+      ExplainsTask gs go ge (ReportsExplainedUnder packed canonical demands (words_of s.limits) (depth_of s.limits))
       AllocatesNone packed s first before after
-  DoesUnder demands (work.Explain true) packed s first before after =
+  DoesUnder demands (work.Explain true canonical) packed s first before after =
       ExplainsTask gs go ge
-      (ReportsExplainedExclusiveUnder packed demands (words_of s.limits) (depth_of s.limits))
+      (ReportsExplainedExclusiveUnder packed canonical demands (words_of s.limits) (depth_of s.limits))
       (AllocatesMarksUnder demands (words_of s.limits) (depth_of s.limits)) packed s first before after
   DoesUnder demands (work.Filter form) packed s first before after =
-      FiltersTask gs go ge form s demands first before after
+      FiltersTask gs go ge form packed s demands first before after
   DoesUnder demands work.Dump packed s first before after =
       ReportsTask gs go ge (ReportsDumpUnder demands (words_of s.limits) (depth_of s.limits))
       AllocatesNone s first before after
@@ -228,9 +286,78 @@ module _ {S O E U : Type 0} (gs : source.Ghosts S) (go : output.Ghosts O) (ge : 
       AllocatesNone s first before after
   DoesUnder demands work.Canon packed s first before after =
       CanonsTask gs go ge gu s demands first before after
+  DoesUnder demands (work.Hash false) packed s first before after =
+      GuessesTask gs go ge (ReportsHashUnder demands (words_of s.limits) (depth_of s.limits))
+      (AllocatesCopyUnder demands (words_of s.limits) (depth_of s.limits)) packed s first before after
+  DoesUnder demands (work.Hash true) packed s first before after =
+      GuessesTask gs go ge (ReportsDigestUnder demands (words_of s.limits) (depth_of s.limits))
+      (AllocatesCopyUnder demands (words_of s.limits) (depth_of s.limits)) packed s first before after
+  DoesUnder demands (work.Json (report.Vet false)) packed s first before after =
+      ReportsTask gs go ge (OrFaultJson demands ReportsAcceptedJson s.limits) AllocatesNone s first before after
+  DoesUnder demands (work.Json (report.Vet true)) packed s first before after =
+      ReportsTask gs go ge (OrFaultJson demands ReportsMarkedJson s.limits)
+      (AllocatesMarksUnder demands (words_of s.limits) (depth_of s.limits)) s first before after
+  DoesUnder demands (work.Json (report.Explain false canonical)) packed s first before after =
+      ExplainsTask gs go ge (OrFaultExplained demands (ReportsAcceptedObject canonical) s.limits) AllocatesNone packed s
+      first before after
+  DoesUnder demands (work.Json (report.Explain true canonical)) packed s first before after =
+      ExplainsTask gs go ge (OrFaultExplained demands (ReportsMarkedExplained canonical) s.limits)
+      (AllocatesMarksUnder demands (words_of s.limits) (depth_of s.limits)) packed s first before after
+  DoesUnder demands (work.Json report.Check) packed s first before after =
+      ReportsTask gs go ge (OrFaultJson demands ReportsCheckedJson s.limits) AllocatesNone s first before after
+  DoesUnder demands (work.Json report.Hash) packed s first before after =
+      GuessesTask gs go ge (OrFaultJson demands ReportsHashedJson s.limits)
+      (AllocatesCopyUnder demands (words_of s.limits) (depth_of s.limits)) packed s first before after
 
-module _ {S O E P U : Type 0} (gs : source.Ghosts S) (go : output.Ghosts O) (ge : output.Ghosts E)
-    (gp : sink.Ghosts P) (gu : sink.Ghosts U) where
+module _ {S E : Type 0} (gs : source.Ghosts S) (ge : output.Ghosts E) where
+  -- After work on the first message had a status, the input ends, and the status stays. Or the line
+  -- says that it goes on, or that reading failed.
+  abbrev pub ExitsRest : Result (Unit {0}) SingleFault → ℕ → E → E → ℕ → Type 0
+  ExitsRest (Ok ended) done old new status = (new ≡ old) × (status ≡ done)
+  ExitsRest (Err fault) done old new status = ExitsSingle ge fault old new status
+
+  -- the rest of the input is looked at, unless a device or memory failed before
+  abbrev pub EndsOne : ℕ → S → S → E → E → ℕ → Type 0
+  EndsOne done mid last old new status =
+      ((done ≡ failed_status) × (last ≡ mid) × (new ≡ old) × (status ≡ failed_status))
+      ⊎ ((done ≢ failed_status) × ((rest : Result (Unit {0}) SingleFault)
+      × EndsSingle gs mid last rest × ExitsRest rest done old new status))
+
+-- an input over bytes that are in memory begins with their words
+module _ {F : Type 0} (gf : source.Ghosts F) where
+  pub record BeginsFrame (frame : VecOut) (over : F) : Type 0 where
+    pub words : gf.words over ≡ input_words false (vec_written frame)
+    pub is_cut : gf.is_cut over ≡ input_is_cut false (vec_written frame)
+    pub places : OnSome (vec_written frame) (gf.places over ≡ input_ends false (vec_written frame))
+    pub place : gf.place over ≡ 0
+    pub broken : gf.broken over ≡ false
+    pub failures : gf.failures over ≡ 0
+
+module _ {S F O E U : Type 0} (gs : source.Ghosts S) (gf : source.Ghosts F) (go : output.Ghosts O)
+    (ge : output.Ghosts E) (gu : sink.Ghosts U) (demands : Demands) (w : Work) (packed : Bool)
+    (s : Settings) where
+  -- what is done after the first message was asked for, by whether there is one
+  abbrev pub DoesFirst : Result (Option VecOut) ExplainedFault → S → S → O → O → E → E → ℕ → Type 0
+  DoesFirst (Ok (Some frame)) mid last before after old new status =
+      (over : F) × (between : E) × (done : ℕ) × BeginsFrame gf frame over
+      × DoesUnder gf go ge gu demands w packed s over before after old between done
+      × EndsOne gs ge done mid last between new status
+  DoesFirst (Ok None) mid last before after old new status =
+      (last ≡ mid) × (after ≡ before) × ExitsSingle ge NoMessage old new status
+  DoesFirst (Err fault) mid last before after old new status =
+      (last ≡ mid) × (after ≡ before) × ExitsFirst ge w packed fault old new status
+
+  -- What is done over an input that has to be exactly one message. The work is done over the frame of
+  -- its first message, as over a plain stream of one. Then the input has to end.
+  pub record DoesOne (first : S) (before after : O) (old new : E) (status : ℕ) : Type 0 where
+    pub mid : S
+    pub last : S
+    pub answer : Result (Option VecOut) ExplainedFault
+    pub reads : ReadsSingle gs packed (limit_of s.size) first mid answer
+    pub does : DoesFirst answer mid last before after old new status
+
+module _ {S F O E P U : Type 0} (gs : source.Ghosts S) (gf : source.Ghosts F) (go : output.Ghosts O)
+    (ge : output.Ghosts E) (gp : sink.Ghosts P) (gu : sink.Ghosts U) where
   -- What is done over the words of a source, by the task.
   abbrev pub DoesTask : Task → Bool → Settings → S → O → O → E → E → ℕ → Type 0
   DoesTask task.Segments packed s first before after = Runs
@@ -248,19 +375,21 @@ module _ {S O E P U : Type 0} (gs : source.Ghosts S) (go : output.Ghosts O) (ge 
       DoesUnder gs go ge gu no_demands work.Canon packed s first before after
   DoesTask (task.Under demands w) packed s first before after =
       DoesUnder gs go ge gu demands w packed s first before after
+  DoesTask (task.One demands w) packed s first before after =
+      DoesOne gs gf go ge gu demands w packed s first before after
   DoesTask task.Pack packed s first before after =
       TranscodesTask gs go ge gp pack_text most_packed_at_once first before after
   DoesTask task.Unpack packed s first before after =
       TranscodesTask gs go ge gu plain_text most_unpacked_at_once first before after
 
-module _ {I S O E P U : Type 0} (gi : input.Ghosts I) (gs : source.Ghosts S) (go : output.Ghosts O)
-    (ge : output.Ghosts E) (gp : sink.Ghosts P) (gu : sink.Ghosts U) where
+module _ {I S F O E P U : Type 0} (gi : input.Ghosts I) (gs : source.Ghosts S) (gf : source.Ghosts F)
+    (go : output.Ghosts O) (ge : output.Ghosts E) (gp : sink.Ghosts P) (gu : sink.Ghosts U) where
   -- A task is done over the words of an input, which is packed or not.
   pub record DoesJob (packed : Bool) (job : Job) (start : I) (before after : O)
       (old new : E) (status : ℕ) : Type 0 where
     pub first : S
     pub begins : BeginsInput gi gs packed start first
-    pub does : DoesTask gs go ge gp gu job.task job.packed job.settings first before after old new status
+    pub does : DoesTask gs gf go ge gp gu job.task job.packed job.settings first before after old new status
 
 -- All words are frames of messages, each within the limit, and none is cut short. Each message is
 -- accepted, and canonical if that was asked, and texts of them were written of which `each` holds.
@@ -315,10 +444,10 @@ WritesUnder demands (work.Vet false) packed s =
     ReportsInput (ReportsVerdictUnder demands (words_of s.limits) (depth_of s.limits)) s
 WritesUnder demands (work.Vet true) packed s =
     ReportsInput (ReportsExclusiveUnder demands (words_of s.limits) (depth_of s.limits)) s
-WritesUnder demands (work.Explain false) packed s =
-    PlacesInput (ReportsExplainedUnder packed demands (words_of s.limits) (depth_of s.limits)) s
-WritesUnder demands (work.Explain true) packed s =
-    PlacesInput (ReportsExplainedExclusiveUnder packed demands (words_of s.limits) (depth_of s.limits)) s
+WritesUnder demands (work.Explain false canonical) packed s =
+    PlacesInput (ReportsExplainedUnder packed canonical demands (words_of s.limits) (depth_of s.limits)) s
+WritesUnder demands (work.Explain true canonical) packed s =
+    PlacesInput (ReportsExplainedExclusiveUnder packed canonical demands (words_of s.limits) (depth_of s.limits)) s
 WritesUnder demands (work.Filter form) packed s =
     ReportsInput (PassesOn form.pack (ReportsIn form demands s.limits)) s
 WritesUnder demands work.Dump packed s =
@@ -328,6 +457,30 @@ WritesUnder demands (work.Get path) packed s =
 WritesUnder demands work.Check packed s =
     ReportsInput (ReportsCheckUnder demands (words_of s.limits) (depth_of s.limits)) s
 WritesUnder demands work.Canon packed s = CanonsInput s demands
+WritesUnder demands (work.Hash false) packed s =
+    ReportsInput (ReportsHashUnder demands (words_of s.limits) (depth_of s.limits)) s
+WritesUnder demands (work.Hash true) packed s =
+    ReportsInput (ReportsDigestUnder demands (words_of s.limits) (depth_of s.limits)) s
+WritesUnder demands (work.Json (report.Vet false)) packed s = ReportsInput (OrFaultJson demands ReportsAcceptedJson s.limits) s
+WritesUnder demands (work.Json (report.Vet true)) packed s = ReportsInput (OrFaultJson demands ReportsMarkedJson s.limits) s
+WritesUnder demands (work.Json (report.Explain false canonical)) packed s =
+    PlacesInput (OrFaultExplained demands (ReportsAcceptedObject canonical) s.limits) s
+WritesUnder demands (work.Json (report.Explain true canonical)) packed s =
+    PlacesInput (OrFaultExplained demands (ReportsMarkedExplained canonical) s.limits) s
+WritesUnder demands (work.Json report.Check) packed s = ReportsInput (OrFaultJson demands ReportsCheckedJson s.limits) s
+WritesUnder demands (work.Json report.Hash) packed s = ReportsInput (OrFaultJson demands ReportsHashedJson s.limits) s
+
+-- All words are the frame of one message within the limit, and none is cut short. What was written is
+-- what the work writes with the status of success of this frame, with zero padding.
+pub record WritesOne (demands : Demands) (w : Work) (packed : Bool) (s : Settings) (words : Option (List ℕ))
+    (is_cut : Bool) (before after : Option (List ℕ)) : Type 0 where
+  pub own : List ℕ
+  pub all : OnSome words ((words ≡ Some own) × (is_cut ≡ false))
+  pub message : List (List ℕ)
+  pub stream : Stream own (message ∷ [])
+  pub within : sum (sizes_of message) ≤ limit_of s.size
+  pub written : WritesUnder demands w packed s (input_words false (Some (frame_bytes message)))
+      (input_is_cut false (Some (frame_bytes message))) before after
 
 -- What a task with the status of success wrote of all words, by the task.
 abbrev pub WritesAll : Task → Bool → Settings → Option (List ℕ) → Bool → Option (List ℕ)
@@ -339,5 +492,6 @@ WritesAll (task.Get path) packed s = WritesUnder no_demands (work.Get path) pack
 WritesAll task.Check packed s = WritesUnder no_demands work.Check packed s
 WritesAll task.Canon packed s = WritesUnder no_demands work.Canon packed s
 WritesAll (task.Under demands w) packed s = WritesUnder demands w packed s
+WritesAll (task.One demands w) packed s = WritesOne demands w packed s
 WritesAll task.Pack packed s = TranscodesInput pack_text
 WritesAll task.Unpack packed s = TranscodesInput plain_text

@@ -1,3 +1,7 @@
 pub mod Asking
+pub mod Files
 pub mod Jobs
+pub mod Marked
+pub mod Marking
+pub mod Sizes
 pub mod Statuses

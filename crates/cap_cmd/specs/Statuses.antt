@@ -15,6 +15,8 @@ use Rattle.cap_text.specs.declared.fault.CopyFault.{CopyFault}
 use Rattle.cap_text.specs.declared.fault.CopyFault.TheVariants.{TooManyWords, Output as copy_output}
 use Rattle.cap_text.specs.declared.fault.CopyFault.TheVariants.{Source as copy_source}
 use Rattle.cap_text.specs.declared.fault.RunFault.{RunFault}
+use Rattle.cap_text.specs.declared.fault.SingleFault.{SingleFault}
+use Rattle.cap_text.specs.declared.fault.SingleFault.TheVariants.{NoMessage, Run, Trailing}
 use Rattle.cap_run.specs.declared.settings.Outcome.{Outcome}
 
 -- the status of a message that couldn't be read
@@ -40,13 +42,23 @@ cause_status (NotStrict fault) = 1
 cause_status (Canon fault) = canon_status fault
 cause_status no_marks = 3
 
--- 0 where every message was accepted, and canonical where that was asked
+-- 0 where every message was accepted, and canonical or hashed where that was asked
 abbrev pub outcome_status : Outcome → ℕ
 outcome_status o = if (o.refused == 0) && (o.noncanonical == 0) then 0 else 1
 
 abbrev pub run_status : Result Outcome RunFault → ℕ
 run_status (Ok outcome) = outcome_status outcome
 run_status (Err fault) = cause_status fault.cause
+
+-- the status of an input that isn't exactly one message
+abbrev pub single_status : SingleFault → ℕ
+single_status NoMessage = 1
+single_status (Trailing byte) = 1
+single_status (Run fault) = cause_status fault.cause
+
+-- the status if a device or memory failed
+abbrev pub failed_status : ℕ
+failed_status = 3
 
 -- the status of a source that gave no word
 abbrev pub source_status : SourceFault → ℕ

@@ -16,6 +16,7 @@ use Rattle.cap_trace.specs.NamedPaths.{fault_path}
 use Rattle.cap_trace.specs.declared.earlier.EarlierPointer.{EarlierPointer}
 use Rattle.cap_text.specs.Lines.{filter_line}
 use Rattle.cap_run.specs.Demanding.{IsStrictUnder}
+use Rattle.cap_run.specs.Differing.{OrDifference}
 use Rattle.cap_run.specs.Placed.{PlacedReports}
 use Rattle.cap_run.specs.Reporting.{Reports}
 use Rattle.cap_run.specs.Vetting.{ReportsAccepted}
@@ -89,17 +90,18 @@ pub record HasLinesAfter (packed : Bool) (words depth before : ℕ) (m : List (L
   pub lines : text ≡ first
       ++ lines_after m words depth (start_after packed before) refusal is_refused counted
 
--- a text of a message that meets the demands, with what comes after it, or those lines
-abbrev pub OrFaultLines : Bool → Demands → (ℕ → ℕ → ℕ → Reports) → ℕ → ℕ → PlacedReports
-OrFaultLines packed demands reports words depth before n m text counted =
-    (IsStrictUnder demands m words depth × HasLinesAfter packed words depth before m
-    (reports before (words_under demands m words) depth n m) text counted)
+-- a text of a message that meets the demands, with what comes after it and whether the message is canonical
+-- if that is asked, or those lines
+abbrev pub OrFaultLines : Bool → Bool → Demands → (ℕ → ℕ → ℕ → Reports) → ℕ → ℕ → PlacedReports
+OrFaultLines packed canonical demands reports words depth before n m text counted =
+    (IsStrictUnder demands m words depth × OrDifference canonical (start_after packed before) n m
+    (HasLinesAfter packed words depth before m (reports before (words_under demands m words) depth n m)) text counted)
     ⊎ ReportsFaultLines packed demands words depth before n m text counted
 
 -- under the limits of the charge and of the depth
-abbrev pub OrFaultLinesIn : Bool → Demands → (ℕ → ℕ → ℕ → Reports) → Limits → PlacedReports
-OrFaultLinesIn packed demands reports limits =
-    OrFaultLines packed demands reports (words_of limits) (depth_of limits)
+abbrev pub OrFaultLinesIn : Bool → Bool → Demands → (ℕ → ℕ → ℕ → Reports) → Limits → PlacedReports
+OrFaultLinesIn packed canonical demands reports limits =
+    OrFaultLines packed canonical demands reports (words_of limits) (depth_of limits)
 
 -- the line of the first pointer that uses a word which an overlap's pointer uses too, if there is one
 abbrev pub earlier_lines : Option (List Step) → Option EarlierPointer → List ℕ
@@ -135,10 +137,10 @@ ReportsMarkedLines packed before words depth n m text counted =
     (IsDisjoint m × ReportsAccepted words depth n m text counted)
     ⊎ ReportsOverlapLines packed before words depth n m text counted
 
--- the text of `explain` over an input that is packed or not
-abbrev pub ReportsExplainedUnder : Bool → Demands → ℕ → ℕ → PlacedReports
-ReportsExplainedUnder packed demands = OrFaultLines packed demands (λ before. ReportsAccepted)
+-- the text of `explain` over an input that is packed or not, with `--canonical` or without it
+abbrev pub ReportsExplainedUnder : Bool → Bool → Demands → ℕ → ℕ → PlacedReports
+ReportsExplainedUnder packed canonical demands = OrFaultLines packed canonical demands (λ before. ReportsAccepted)
 
 -- the text of `explain --exclusive`
-abbrev pub ReportsExplainedExclusiveUnder : Bool → Demands → ℕ → ℕ → PlacedReports
-ReportsExplainedExclusiveUnder packed demands = OrFaultLines packed demands (ReportsMarkedLines packed)
+abbrev pub ReportsExplainedExclusiveUnder : Bool → Bool → Demands → ℕ → ℕ → PlacedReports
+ReportsExplainedExclusiveUnder packed canonical demands = OrFaultLines packed canonical demands (ReportsMarkedLines packed)

@@ -5,6 +5,7 @@ ghost use Rattle.cap_explain.specs.Explaining.{overlap_explanation};
 ghost use Rattle.cap_frame.specs.Limit.{limit_of};
 ghost use Rattle.cap_run.specs.Demanding.{AllocatesIn, AllocatesMarksUnder};
 ghost use Rattle.cap_run.specs.Breaking.{ExplainsStream};
+ghost use Rattle.cap_run.specs.Differing.{OrDifference};
 ghost use Rattle.cap_run.specs.Explained.{HasLinesAfter, IsOverlapText, OrFaultLinesIn, RefusedByFilter, ReportsExplainedExclusiveUnder, ReportsExplainedUnder, ReportsMarkedLines, earlier_lines, fault_lines, filter_demands, filter_lines, start_after};
 ghost use Rattle.cap_run.specs.Running.{WritesOneOf};
 ghost use Rattle.cap_run.specs.Reporting.{AllocatesNone};
@@ -21,6 +22,7 @@ ghost use Rattle.cap_vet.specs.Demands.{IsDemandFault};
 ghost use Rattle.cap_vet.specs.Limits.{depth_of, words_of};
 ghost use Rattle.std.specs.Prelude.{◌++◌, ◌<◌, ◌^◌, ◌≡◌, List, codes, true, ℕ};
 
+use crate::engines::differing::{counted_by, write_difference_lines};
 use crate::engines::explaining::{PlacedJudge, explain_all};
 use crate::engines::passing::write_more;
 use crate::engines::stream::Counted;
@@ -28,6 +30,7 @@ use crate::engines::vet::VetPrinter;
 use crate::engines::whole::{Printer, after_text};
 use crate::settings::{ExplainSettings, Outcome};
 use crate::waiting::Flushing;
+use cap_difference::first_difference;
 use cap_explain::{
     Explanation, MessageStart, Numbers, explain, explain_earlier, explain_overlap, refusal_charge,
 };
@@ -42,7 +45,7 @@ use cap_words::{ByteOut, OutFault, WordSource};
 use std::alloc::Global;
 
 /// The greatest limits.
-fn greatest_limits() -> Limits
+pub(crate) fn greatest_limits() -> Limits
     ensures { depth_of result ≡ most_depth }
 {
     match Limits::new(268435456, 256) {
@@ -121,7 +124,7 @@ fn filter_demands() -> Demands
 }
 
 /// Why `filter`, the guard and the libraries refuse a message under these limits, if they do.
-fn filter_refusal<M: Segments>(message: &M, limits: Limits) -> Option<StrictRefusal>
+pub(crate) fn filter_refusal<M: Segments>(message: &M, limits: Limits) -> Option<StrictRefusal>
     ensures { RefusedByFilter (M.segments message.now) (words_of limits) (depth_of limits) result }
 {
     match vet_with(message, limits, filter_demands()) {
@@ -337,14 +340,16 @@ impl PlacedPrinter for OverlapPrinter {
     }
 }
 
-/// Vets a message under demands, and writes the text of its printer if the message meets them. After
-/// the line of an accepted message it explains why `filter`, the guard and the libraries refuse it.
-/// If the message doesn't meet the demands, it explains the first reason why not.
+/// Vets a message under demands, and writes the text of its printer if the message meets them.
+/// After the line of an accepted message it explains why `filter`, the guard and the libraries
+/// refuse it, and if that is asked why the message isn't canonical. If the message doesn't meet the
+/// demands, it explains the first reason why not.
 #[derive(Clone, Copy)]
 struct Explaining<T> {
     limits: Limits,
     demands: Demands,
     packed: bool,
+    canonical: bool,
     printer: T,
 }
 
@@ -405,10 +410,75 @@ impl<T: PlacedPrinter> Explaining<T> {
             Err(cause) => Err(cause),
         }
     }
+
+    /// Does what `print_met` does. After the text of an accepted message it writes whether the
+    /// message is canonical, and why not.
+    fn print_difference<M: Segments, O: ByteOut>(
+        &self,
+        page: &mut Page,
+        out: &mut O,
+        before: u64,
+        number: u32,
+        vetted: &Vetted<'_, M>,
+    ) -> Result<Counted, Cause>
+        requires { before < 2 ^ 61 }
+        ensures { (w : ℕ) (t : Tree) → let m = M.segments (message_of vetted.now) in let s = self.now in
+            let d = depth_of s.limits in IsReport m w d (report_of vetted.now) t →
+            WritesOneOf O.ByteOut (OrDifference true (start_after s.packed before) number m
+            (HasLinesAfter s.packed (words_of s.limits) d before m
+            (T.reports s.printer before w d number m))) (T.allocates s.printer w d m)
+            out.old out.new result }
+    {
+        let difference = first_difference(vetted);
+        match self.print_met(page, out, before, number, vetted) {
+            Ok(Counted::Accepted) => {
+                let start = start_after(self.packed, before);
+                let message = vetted.message();
+                let written = write_difference_lines(
+                    page,
+                    out,
+                    number,
+                    message,
+                    &difference,
+                    start,
+                );
+                after_text(written, counted_by(&difference))
+            }
+            Ok(Counted::Refused) => Ok(Counted::Refused),
+            Ok(Counted::NotCanonical) => Ok(Counted::NotCanonical),
+            Err(cause) => Err(cause),
+        }
+    }
+
+    /// Writes the text of a message that meets the demands, with whether it is canonical if that is
+    /// asked.
+    fn print_whole<M: Segments, O: ByteOut>(
+        &self,
+        page: &mut Page,
+        out: &mut O,
+        before: u64,
+        number: u32,
+        vetted: &Vetted<'_, M>,
+    ) -> Result<Counted, Cause>
+        requires { before < 2 ^ 61 }
+        ensures { (w : ℕ) (t : Tree) → let m = M.segments (message_of vetted.now) in let s = self.now in
+            let d = depth_of s.limits in IsReport m w d (report_of vetted.now) t →
+            WritesOneOf O.ByteOut (OrDifference s.canonical (start_after s.packed before) number m
+            (HasLinesAfter s.packed (words_of s.limits) d before m
+            (T.reports s.printer before w d number m))) (T.allocates s.printer w d m)
+            out.old out.new result }
+    {
+        if self.canonical {
+            self.print_difference(page, out, before, number, vetted)
+        } else {
+            self.print_met(page, out, before, number, vetted)
+        }
+    }
 }
 
 impl<T: PlacedPrinter> PlacedJudge for Explaining<T> {
-    ghost reports = { λ e. OrFaultLinesIn e.packed e.demands (T.reports e.printer) e.limits };
+    ghost reports = { λ e.
+        OrFaultLinesIn e.packed e.canonical e.demands (T.reports e.printer) e.limits };
 
     ghost allocates = { λ e. AllocatesIn e.demands (T.allocates e.printer) e.limits };
 
@@ -421,7 +491,7 @@ impl<T: PlacedPrinter> PlacedJudge for Explaining<T> {
         message: &M,
     ) -> Result<Counted, Cause> {
         match vet_with(message, self.limits, self.demands) {
-            Ok(vetted) => self.print_met(page, out, before, number, &vetted),
+            Ok(vetted) => self.print_whole(page, out, before, number, &vetted),
             Err(refusal) => {
                 let written = self.write_refusal(page, out, before, number, message, &refusal);
                 after_text(written, Counted::Refused)
@@ -433,6 +503,10 @@ impl<T: PlacedPrinter> PlacedJudge for Explaining<T> {
 /// Does what [`run_vet_with`](crate::run_vet_with) does, and explains each refusal. After the line of
 /// a refused message come lines with the path to its pointer, the pointer word and where it leads,
 /// what is exceeded, and the reason as a sentence.
+///
+/// If `settings.canonical` says so, a line on whether it is canonical comes after the text of an
+/// accepted message, with the first difference from its canonical copy and the lines that explain
+/// that. A message that isn't canonical is counted as such.
 ///
 /// # Errors
 ///
@@ -447,13 +521,15 @@ pub fn run_explain<S: WordSource, O: ByteOut, F: Flushing<S>>(
     flushing: &F,
 ) -> Result<Outcome, ExplainedFault>
     ensures { let s = settings.now in ExplainsStream S.WordSource O.ByteOut
-        (ReportsExplainedUnder s.packed demands (words_of s.limits) (depth_of s.limits)) AllocatesNone
-        s.packed (limit_of s.size) s.messages source.old source.new out.old out.new result }
+        (ReportsExplainedUnder s.packed s.canonical demands (words_of s.limits) (depth_of s.limits))
+        AllocatesNone s.packed (limit_of s.size) s.messages source.old source.new
+        out.old out.new result }
 {
     let explaining = Explaining {
         limits: settings.limits,
         demands,
         packed: settings.packed,
+        canonical: settings.canonical,
         printer: AcceptedPrinter,
     };
     explain_all(alloc, source, out, settings, explaining, flushing)
@@ -475,7 +551,8 @@ pub fn run_explain_exclusive<S: WordSource, O: ByteOut, F: Flushing<S>>(
     flushing: &F,
 ) -> Result<Outcome, ExplainedFault>
     ensures { let s = settings.now in ExplainsStream S.WordSource O.ByteOut
-        (ReportsExplainedExclusiveUnder s.packed demands (words_of s.limits) (depth_of s.limits))
+        (ReportsExplainedExclusiveUnder s.packed s.canonical demands (words_of s.limits)
+        (depth_of s.limits))
         (AllocatesMarksUnder demands (words_of s.limits) (depth_of s.limits))
         s.packed (limit_of s.size) s.messages source.old source.new out.old out.new result }
 {
@@ -483,6 +560,7 @@ pub fn run_explain_exclusive<S: WordSource, O: ByteOut, F: Flushing<S>>(
         limits: settings.limits,
         demands,
         packed: settings.packed,
+        canonical: settings.canonical,
         printer: OverlapPrinter {
             alloc,
             packed: settings.packed,

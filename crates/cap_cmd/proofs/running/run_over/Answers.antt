@@ -29,5 +29,8 @@ returns-in-Pack g c = rw c.in-Pack.is c.pack.ensures
 pub returns-in-Unpack : goal.returns-in-Unpack
 returns-in-Unpack g c = rw c.in-Unpack.is c.unpack.ensures
 
+pub returns-in-Under : goal.returns-in-Under
+returns-in-Under g c = rw c.in-Under.is c.under-in-Under.ensures
+
 pub returns : goal.returns
-returns g c = rw c.in-Under.is c.under-in-Under.ensures
+returns g c = rw c.in-One.is c.one.ensures

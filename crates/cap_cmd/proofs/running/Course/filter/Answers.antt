@@ -7,6 +7,6 @@ returns g c = (
     last = c.run_filter-answer.new.source;
     answer = c.run_filter-answer.result;
     does = c.run_filter-answer.ensures;
-    exited = c.report_run.ensures;
+    exited = c.report_guessed.ensures;
   },
 )

@@ -30,3 +30,9 @@ returns-in-Check g c = rw c.in-Check.is (record {
 
 pub returns-in-Canon : goal.returns-in-Canon
 returns-in-Canon g c = rw c.in-Canon.is c.canon.ensures
+
+pub returns-in-Hash : goal.returns-in-Hash
+returns-in-Hash g c = rw c.in-Hash.is c.hash-status.ensures
+
+pub returns-in-Json : goal.returns-in-Json
+returns-in-Json g c = rw c.in-Json.is c.json-status.ensures

@@ -1,5 +1,6 @@
 use Rattle.cap_spec.proofs.ProofNames.{List, ap, inl, inr, refl, subst, ℕ, ◌++◌, strict_verdict, vet_text, Tree}
 use Rattle.cap_vet.specs.VetNames.{words_under, depth_of, words_of, IsReport, report_of}
+use Rattle.cap_run.specs.Differing.{OrDifference}
 use Rattle.cap_run.specs.Explained.{HasLinesAfter, fault_lines, start_after}
 use Rattle.cap_run.specs.RunNames.{AllocatesUnder, OrFaultLines, WritesOneOf}
 use Rattle.cap_run.specs.declared.engines.stream.Counted.TheVariants.{Refused}
@@ -15,16 +16,18 @@ returns-in-Ok g c =
     let depth = depth_of v.limits in
     let met = c.in-Ok.ensures.ok in
     let reported = subst (λ (m : List (List ℕ)). (w : ℕ) (t : Tree) → IsReport m w depth (report_of c.in-Ok.vetted) t
-    → WritesOneOf g.O.ByteOut (HasLinesAfter v.packed words depth c.args.before m (g.T.PlacedPrinter.reports v.printer c.args.before w depth c.args.number m))
+    → WritesOneOf g.O.ByteOut (OrDifference v.canonical (start_after v.packed c.args.before) c.args.number m
+    (HasLinesAfter v.packed words depth c.args.before m (g.T.PlacedPrinter.reports v.printer c.args.before w depth c.args.number m)))
     (g.T.PlacedPrinter.allocates v.printer w depth m)
-    c.args.out.now c.print_met.new.out c.print_met.result)
-    (ap g.M.Segments.segments c.in-Ok.ensures.message) c.print_met.ensures in
+    c.args.out.now c.print_whole.new.out c.print_whole.result)
+    (ap g.M.Segments.segments c.in-Ok.ensures.message) c.print_whole.ensures in
     writes_as g.O.ByteOut
-    (HasLinesAfter v.packed words depth c.args.before m (g.T.PlacedPrinter.reports v.printer c.args.before within depth c.args.number m))
-    (OrFaultLines v.packed v.demands (g.T.PlacedPrinter.reports v.printer) words depth c.args.before c.args.number m)
+    (OrDifference v.canonical (start_after v.packed c.args.before) c.args.number m
+    (HasLinesAfter v.packed words depth c.args.before m (g.T.PlacedPrinter.reports v.printer c.args.before within depth c.args.number m)))
+    (OrFaultLines v.packed v.canonical v.demands (g.T.PlacedPrinter.reports v.printer) words depth c.args.before c.args.number m)
     (g.T.PlacedPrinter.allocates v.printer within depth m)
     (AllocatesUnder v.demands (g.T.PlacedPrinter.allocates v.printer) words depth m)
-    c.args.out.now c.print_met.new.out c.print_met.result (λ text counted e. inl (met.1.strict, e)) (λ w. (met.1.strict, w))
+    c.args.out.now c.print_whole.new.out c.print_whole.result (λ text counted e. inl (met.1.strict, e)) (λ w. (met.1.strict, w))
     (reported within met.0.0 met.0.1)
 
 pub returns-in-Err : goal.returns-in-Err
@@ -37,7 +40,7 @@ returns-in-Err g c =
     let is_fault = c.in-Err.ensures.err in
     writes_text g.O.ByteOut (vet_text c.args.number (strict_verdict refusal)
     ++ fault_lines v.demands m words depth refusal is_fault (start_after v.packed c.args.before)) Refused
-    (OrFaultLines v.packed v.demands (g.T.PlacedPrinter.reports v.printer) words depth c.args.before c.args.number m)
+    (OrFaultLines v.packed v.canonical v.demands (g.T.PlacedPrinter.reports v.printer) words depth c.args.before c.args.number m)
     (AllocatesUnder v.demands (g.T.PlacedPrinter.allocates v.printer) words depth m)
     c.args.out.now c.write_refusal-written.new.out c.write_refusal-written.result c.after_text.result
     (inr (record { fault = refusal; is_fault = is_fault; lines = refl; counts = refl }))

@@ -1,0 +1,4 @@
+use Rattle.cap_run.proofs.engines.explained.run_explain_json.Goals as goal
+
+pub returns : goal.returns
+returns g c = c.explain_all.ensures
