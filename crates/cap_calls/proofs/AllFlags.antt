@@ -1,4 +1,4 @@
--- With all three flags nothing but acceptance is demanded.
+-- With both flags nothing but acceptance is demanded.
 use Rattle.cap_spec.specs.declared.Refusal.{Refusal}
 use Rattle.cap_spec.proofs.ProofNames.{Bool, List, ap, arith, false, inl, inr, not, refl, subst, sym, ℕ, ◌∙◌, ◌≡◌}
 use Rattle.cap_spec.proofs.ProofNames.{false≢true, IsRefused, IsRefusedOnPath, rules}
@@ -16,10 +16,10 @@ use Rattle.cap_spec.specs.declared.StrictRefusal.TheVariants as strict
 use Rattle.cap_vet.specs.declared.exclusiveness.exclusive_buffer.ExclusiveFault.TheVariants as fault
 
 -- what the flags come to
-pub demands_none : (l : CallLimits) → l.flags ≡ 7 → demands_of l ≡ no_demands
+pub demands_none : (l : CallLimits) → l.flags ≡ 3 → demands_of l ≡ no_demands
 demands_none l e = rw e refl
 
-pub table_given : (l : CallLimits) → l.flags ≡ 7 → has_no_table l ≡ false
+pub table_given : (l : CallLimits) → l.form ≡ 1 → has_no_table l ≡ false
 table_given l e = rw e refl
 
 -- then the input is a frame
@@ -29,7 +29,7 @@ framed_input whole l bs f off (of_frame n t) = t
 framed_input whole l bs f off (of_no_words y c h e k) = one_input l off y
 framed_input whole l bs f off (of_words y g h p e) = one_input l off y
 
-pub trailing_allowed : (l : CallLimits) → l.flags ≡ 7 → not (allows_trailing l) ≡ false
+pub trailing_allowed : (l : CallLimits) → l.form ≡ 1 → not (allows_trailing l) ≡ false
 trailing_allowed l e = rw e refl
 
 -- Without a demand a message has only the faults for which it is refused.
@@ -59,7 +59,7 @@ module _ {K : Type 0} {P : List (List ℕ) → Report → Found → Type 0} (m :
   judges_more (inr (r, h, p)) = accepted r h (meets_none m w d r h) p
 
 -- So it is under all flags.
-module _ {K : Type 0} {P : List (List ℕ) → Report → Found → Type 0} (l : CallLimits) (all : l.flags ≡ 7)
+module _ {K : Type 0} {P : List (List ℕ) → Report → Found → Type 0} (l : CallLimits) (all : l.flags ≡ 3)
     (m : List (List ℕ)) (f : Found) where
   pub all_less : Judges (demands_of l) K P m l.charge l.depth f → JudgesAny K P m l.charge l.depth f
   all_less h = search (rules, judges_less, demands_none)
@@ -84,12 +84,12 @@ marks_more size m w d f (inl (fault.Overlap s v k, h, e)) = accepted h.0 h.1 (me
     (overlap s v k h.2 h.3 e)
 marks_more size m w d f (inr (r, h, j, enough, e)) = accepted r h (meets_none m w d r h) (exclusive enough j e)
 
-pub all_marks_less : (l : CallLimits) → l.flags ≡ 7 → (size : ℕ) (m : List (List ℕ)) (f : Found)
+pub all_marks_less : (l : CallLimits) → l.flags ≡ 3 → (size : ℕ) (m : List (List ℕ)) (f : Found)
     → Marks size (demands_of l) m l.charge l.depth f
     → MarksAny size m l.charge l.depth f
 all_marks_less l all size m f h = search (rules, marks_less size m l.charge l.depth f (subst (λ (d : Demands). Marks size d m l.charge l.depth f) (demands_none l all) h), demands_none l all)
 
-pub all_marks_more : (l : CallLimits) → l.flags ≡ 7 → (size : ℕ) (m : List (List ℕ)) (f : Found)
+pub all_marks_more : (l : CallLimits) → l.flags ≡ 3 → (size : ℕ) (m : List (List ℕ)) (f : Found)
     → MarksAny size m l.charge l.depth f
     → Marks size (demands_of l) m l.charge l.depth f
 all_marks_more l all size m f h = search (rules, demands_none, marks_more)

@@ -121,7 +121,7 @@ one_input_reported whole l bs f g both same (of_no_words y c h e x) (of_no_words
 one_input_reported whole l bs f g both same (of_no_words y c h e x) (of_words z v k q i) = absurd (no_word_cause l bs c h k)
 one_input_reported whole l bs f g both same (of_words y u h p e) (of_no_words z d k i j) = absurd (no_word_cause l bs d k h)
 one_input_reported whole l bs f g both same (of_words y u h p e) (of_words z v k q i) =
-    let s = same (plain_words bs ∷ []) u v p q in (e ∙ (ap (framed_found (length bs) 1) s.0 ∙ sym i), s.1)
+    let s = same (plain_words bs ∷ []) u v p q in (e ∙ (ap (framed_found l (length bs) (plain_words bs ∷ [])) s.0 ∙ sym i), s.1)
 
 -- A message has one fault under demands.
 as_strict_fault : (demands : Demands) (m : List (List ℕ)) (w d : ℕ) (r : StrictRefusal) → IsDemandFault demands m w d r
@@ -170,7 +170,7 @@ one_frame_reported l bs a b r q (f, t, h) (g, u, k) =
     one_returned f g a b r q (one_reported {S = ⊤} l bs f g (λ _ _. tt) (λ m x y p s. (p ∙ sym s, tt)) t u).0 h k
 
 -- What is found of an accepted message is found of the bytes.
-one_message_reported : {P : List (List ℕ) → Report → Found → Type 0} (whole : Bool) (l : CallLimits) (bs : List ℕ)
+pub one_message_reported : {P : List (List ℕ) → Report → Found → Type 0} (whole : Bool) (l : CallLimits) (bs : List ℕ)
     (a b : Answer) (r q : CallReport)
     → ((m : List (List ℕ)) (z : Report) (x y : Found) → P m z x → P m z y → x ≡ y)
     → (f : Found) × ReportsInput whole ⊤ (Judges (demands_of l) ⊤ P) l bs f × Returns f a r

@@ -7,9 +7,18 @@ use Rattle.cap_calls.specs.CallLaws.{NamesPointer, RefusesNothing}
 use Rattle.cap_calls.specs.declared.answer.Answer.TheVariants.{DepthLimit, Good, ManySegments, NoRoot, WordLimit}
 use Rattle.cap_calls.specs.declared.limits.CallLimits.{CallLimits}
 
--- the greatest limits, with the flags 1, 2 and 4
+-- the greatest limits, with both flags, for bytes that start with a message
 abbrev greatest : CallLimits
-greatest = record { message_words = 268435456; charge = 268435456; depth = 256; flags = 7; reserved = replicate 2 0 }
+greatest =
+    record {
+      message_words = 268435456;
+      charge = 268435456;
+      depth = 256;
+      flags = 3;
+      form = 1;
+      padding = 0;
+      reserved = replicate 6 0;
+    }
 
 are_limits : AreLimits greatest
 are_limits = search rules

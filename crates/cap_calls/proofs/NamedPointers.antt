@@ -6,23 +6,26 @@ use Rattle.cap_spec.specs.Paths.{Before}
 use Rattle.cap_spec.proofs.Lemmas.{Before-trans}
 use Rattle.cap_spec.proofs.Paths.PathCounts.{pointers_counted}
 use Rattle.cap_spec.proofs.ProofNames.{Bool, List, [], ap, arith, false, if◌then◌else◌, inl, inr, length, min, not, refl}
-use Rattle.cap_spec.proofs.ProofNames.{subst, sum, sym, true, ℕ, ◌+◌, ◌∙◌, ◌∷◌, ◌≡◌, ◌≤◌, ◌⊎◌, ⊤, IsNumbered, IsWithin}
+use Rattle.cap_spec.proofs.ProofNames.{subst, sum, sym, true, ℕ, ◌+◌, ◌∙◌, ◌∷◌, ◌≡◌, ◌≢◌, ◌≤◌, ◌⊎◌, ⊤, IsNumbered, IsWithin}
 use Rattle.cap_spec.proofs.ProofNames.{plain_words, rules, sizes_of}
 use Rattle.cap_spec.proofs.Trees.Charges.{pointers_charged}
 use Rattle.cap_trace.proofs.Numbering.{one_numbered, rises_fewer}
 use Rattle.cap_trace.proofs.Sharing.{earlier_traceable}
-use Rattle.cap_trace.proofs.Traceable.{fault_traceable, lax_traceable, overlap_traceable}
+use Rattle.cap_trace.proofs.Traceable.{accepted_traceable, fault_traceable, lax_traceable, overlap_traceable}
 use Rattle.cap_vet.specs.VetNames.{IsDemandFault, words_under}
-use Rattle.cap_calls.specs.CallFindings.{accepted, without}
+use Rattle.cap_calls.specs.CallFindings.{accepted, detail_of, without}
+use Rattle.cap_calls.specs.CallFlags.{charge_limit}
 use Rattle.cap_calls.specs.CallReports.{refused_report}
 use Rattle.cap_calls.specs.CallLaws.{FindsPlace, HasMessage, NamesPointer, PointerCall}
-use Rattle.cap_calls.specs.CallNames.{Step, StrictRefusal, ManySegments, Pointer, Demands, Report, reason_answer}
+use Rattle.cap_calls.specs.CallNames.{Reason, Step, StrictRefusal, ManySegments, Pointer, Demands, Report, reason_answer}
 use Rattle.cap_calls.specs.CallNames.{refusal_answer, Judges, framed, framed_found, refused}
 use Rattle.cap_calls.specs.CallNames.{refused_found, reports, trailing, allows_trailing, demands_of, has_no_table}
 use Rattle.cap_calls.specs.CallNames.{HasFrame, HasTrailing, HasWords, ReportsInput, of_frame, of_no_words, of_words}
 use Rattle.cap_calls.specs.CallNames.{cause_answer, IsGood, Marks, exclusive, overlap, Answer, Found}
 use Rattle.cap_calls.specs.CallNames.{NoFrame, CallLimits, CallReport}
 use Rattle.cap_calls.specs.Calls.{ReportsVet}
+use Rattle.cap_calls.specs.DifferenceCalls.{IsDifferent, ReportsDifference, canonical, different}
+use Rattle.cap_calls.specs.DifferenceNumbers.{reason_number}
 use Rattle.cap_calls.specs.EarlierCalls.{FindsEarlier, ReportsEarlierCall, earlier}
 use Rattle.cap_calls.specs.ExclusiveCalls.{FindsMarks, ReportsExclusive, too_small}
 use Rattle.cap_calls.specs.PointerCalls.{FindsPointer, IsCounted, ReportsPointer, written}
@@ -31,6 +34,7 @@ use Rattle.cap_calls.proofs.Words.{no_word_cause, one_input}
 use Rattle.cap_calls.specs.EarlierCalls as earlier_call
 use Rattle.cap_calls.specs.PointerCalls as pointer
 use Rattle.cap_calls.specs.declared.answer.Answer.TheVariants as answer
+use Rattle.cap_difference.specs.declared.reason.DifferenceReason.TheVariants as reason
 
 -- The pointer word at s:w is number n, and a verdict may have this number.
 record IsNamed (m : List (List ℕ)) (words depth s w n : ℕ) : Type 0 where
@@ -150,9 +154,9 @@ data IsNamedIn (l : CallLimits) (bs : List ℕ) (s w n : ℕ) : Type 0 where
 of_found : (S : Answer → Type 0) (P : List (List ℕ) → ℕ → ℕ → Found → Type 0) (l : CallLimits) (f : Found) → S f.answer
     → ((m : List (List ℕ)) (g : Found) → S g.answer → P m l.charge l.depth g
     → IsNamed m l.charge l.depth g.report.segment g.report.word g.report.pointers)
-    → (m : List (List ℕ)) (x y : ℕ) (g : Found) → f ≡ framed_found x y g → P m l.charge l.depth g
+    → (m : List (List ℕ)) (x : ℕ) (g : Found) → f ≡ framed_found l x m g → P m l.charge l.depth g
     → IsNamed m l.charge l.depth f.report.segment f.report.word f.report.pointers
-of_found S P l f names p m x y g e h =
+of_found S P l f names p m x g e h =
     subst (λ (z : Found). IsNamed m l.charge l.depth z.report.segment z.report.word z.report.pointers) (sym e)
     (p m g (subst (λ (z : Found). S z.answer) e names) h)
 
@@ -166,11 +170,11 @@ named_in S l bs f no_cause_names no_trailing_names names p (of_frame n (trailing
 named_in S l bs f no_cause_names no_trailing_names names p (of_frame n (reports only (without c h e i))) =
     absurd (no_cause_names c (subst (λ (z : Found). S z.answer) e names))
 named_in {P = P} S l bs f no_cause_names no_trailing_names names p (of_frame n (reports only (framed m x y g h i e))) =
-    in_frame n m x y h only (of_found S P l f names p m x y g e i)
+    in_frame n m x y h only (of_found S P l f names p m x g e i)
 named_in S l bs f no_cause_names no_trailing_names names p (of_no_words y c h e i) =
     absurd (no_cause_names c (subst (λ (z : Found). S z.answer) e names))
 named_in {P = P} S l bs f no_cause_names no_trailing_names names p (of_words y g h i e) =
-    in_words y h (of_found S P l f names p (plain_words bs ∷ []) (length bs) 1 g e i)
+    in_words y h (of_found S P l f names p (plain_words bs ∷ []) (length bs) g e i)
 
 -- The path to it is found.
 module _ (l : CallLimits) (bs : List ℕ) (n : ℕ) (c : PointerCall l bs n) (s w : ℕ) where
@@ -275,3 +279,89 @@ exclusive_found l bs size a n r names (f, t, h, e) =
 pub earlier_found : (l : CallLimits) (bs : List ℕ) (n : ℕ) (r : CallReport) → ReportsEarlierCall l bs n answer.Good r
     → (c : PointerCall l bs r.pointers) → FindsPlace l bs r.pointers c r.segment r.word
 earlier_found l bs n r (f, t, h) = place_found l bs f r h.1 (earlier_named_in l bs f n h.0 t)
+
+-- Of a first difference the report names a pointer, if the reason is about one.
+abbrev IsOfPointer : Found → Type 0
+IsOfPointer f = (f.answer ≡ answer.NotCanonical) × (f.report.detail ≢ reason_number reason.Segments)
+    × (f.report.detail ≢ reason_number reason.Trailing)
+
+-- other answers are about none
+cause_not_different : (c : NoFrame) → answer.NotCanonical ≡ cause_answer c → ⊥
+cause_not_different c h = search rules
+
+reason_not_different : (v : Reason) → answer.NotCanonical ≡ reason_answer v → ⊥
+reason_not_different v h = search rules
+
+refusal_not_different : (v : StrictRefusal) → answer.NotCanonical ≡ refusal_answer v → ⊥
+refusal_not_different v h = search (rules, reason_not_different)
+
+-- the number of the reason is that without a frame
+own_detail : (a : Answer) (limit d n : ℕ) → a ≡ answer.NotCanonical → detail_of a limit d ≢ n → d ≢ n
+own_detail a limit d n e h = subst (λ (u : Answer). detail_of u limit d ≢ n) e h
+
+own_pointer : (l : CallLimits) (x : ℕ) (m : List (List ℕ)) (g : Found) → IsOfPointer (framed_found l x m g) → IsOfPointer g
+own_pointer l x m g (a, some, other) = (
+  a,
+  own_detail g.answer (charge_limit l m) g.report.detail (reason_number reason.Segments) a some,
+  own_detail g.answer (charge_limit l m) g.report.detail (reason_number reason.Trailing) a other,
+)
+
+different_named : (m : List (List ℕ)) (words depth limit : ℕ) (g : Found) → limit ≤ words → IsOfPointer g
+    → (r : Report) → IsWithin m limit depth → IsDifferent m r g
+    → IsNamed m words depth g.report.segment g.report.word g.report.pointers
+different_named m words depth limit g low (a, some, other) r within (canonical h e) =
+    absurd (let z = sym a ∙ ap (λ (z : Found). z.answer) e in cc)
+different_named m words depth limit g low (a, some, other) r within (different h d (inl f) e) =
+    absurd (some (ap (λ (z : Found). z.report.detail) e ∙ ap reason_number f.reason))
+different_named m words depth limit g low (a, some, other) r within (different h d (inr (inr f)) e) =
+    absurd (other (ap (λ (z : Found). z.report.detail) e ∙ ap reason_number f.reason))
+different_named m words depth limit g low (a, some, other) r within (different h d (inr (inl f)) e) =
+    subst (λ (z : Found). IsNamed m words depth z.report.segment z.report.word z.report.pointers) (sym e)
+    (record {
+      path = f.first.path;
+      counted = record {
+        traceable = accepted_traceable m limit depth d.segment d.word d.pointers f.first.path within f.first.numbered;
+        within = omega (arith, number_within m limit depth d.pointers d.segment d.word f.first.path within f.first.numbered, low);
+      };
+      numbered = f.first.numbered;
+    })
+
+different_judged : (demands : Demands) (m : List (List ℕ)) (words depth : ℕ) (g : Found) → IsOfPointer g
+    → Judges demands ⊤ IsDifferent m words depth g
+    → IsNamed m words depth g.report.segment g.report.word g.report.pointers
+different_judged demands m words depth g names (refused v u e i) =
+    absurd (refusal_not_different v (sym names.0 ∙ ap (λ (z : Found). z.answer) e))
+different_judged demands m words depth g names (accepted r h meets p) =
+    different_named m words depth (words_under demands m words) g (under demands m words) names r meets.within p
+
+module _ (l : CallLimits) (bs : List ℕ) (f : Found) (names : IsOfPointer f) where
+  different_framed : (m : List (List ℕ)) (x : ℕ) (g : Found) → f ≡ framed_found l x m g
+      → Judges (demands_of l) ⊤ IsDifferent m l.charge l.depth g
+      → IsNamed m l.charge l.depth f.report.segment f.report.word f.report.pointers
+  different_framed m x g e h =
+      subst (λ (z : Found). IsNamed m l.charge l.depth z.report.segment z.report.word z.report.pointers) (sym e)
+      (different_judged (demands_of l) m l.charge l.depth g (own_pointer l x m g (subst IsOfPointer e names)) h)
+
+  different_named_in : ReportsInput true ⊤ (Judges (demands_of l) ⊤ IsDifferent) l bs f
+      → IsNamedIn l bs f.report.segment f.report.word f.report.pointers
+  different_named_in (of_frame n (trailing m x y t h more e i)) =
+      absurd (let z = sym names.0 ∙ ap (λ (z : Found). z.answer) e in cc)
+  different_named_in (of_frame n (reports only (without c h e i))) =
+      absurd (cause_not_different c (sym names.0 ∙ ap (λ (z : Found). z.answer) e))
+  different_named_in (of_frame n (reports only (framed m x y g h i e))) =
+      in_frame n m x y h (λ _. only refl) (different_framed m x g e i)
+  different_named_in (of_no_words y c h e i) =
+      absurd (cause_not_different c (sym names.0 ∙ ap (λ (z : Found). z.answer) e))
+  different_named_in (of_words y g h i e) = in_words y h (different_framed (plain_words bs ∷ []) (length bs) g e i)
+
+pub difference_found_at : (l : CallLimits) (bs : List ℕ) (r : CallReport)
+    → ReportsDifference l bs answer.NotCanonical r → r.detail ≢ reason_number reason.Segments
+    → r.detail ≢ reason_number reason.Trailing
+    → (c : PointerCall l bs r.pointers) → FindsPlace l bs r.pointers c r.segment r.word
+difference_found_at l bs r (f, t, h) some other =
+    place_found l bs f r h.1
+    (different_named_in l bs f (
+      sym h.0,
+      subst (λ (z : CallReport). z.detail ≢ reason_number reason.Segments) h.1 some,
+      subst (λ (z : CallReport). z.detail ≢ reason_number reason.Trailing) h.1 other,
+    ) t)

@@ -1,14 +1,15 @@
 -- What isn't refused isn't refused with higher limits and more flags.
 use Rattle.std.proofs.Math.Nat.{le-min, min-le_left, min-le_right}
 use Rattle.cap_spec.proofs.ProofNames.{Bool, List, [], ap, arith, false, if◌then◌else◌, min, not, refl, subst, sum}
-use Rattle.cap_spec.proofs.ProofNames.{sym, true, ℕ, ◌+◌, ◌-◌, ◌<◌, ◌∙◌, ◌∷◌, ◌≡◌, ◌≤◌, false≢true, ⊤, sizes_of}
+use Rattle.cap_spec.proofs.ProofNames.{sym, true, ℕ, ◌*◌, ◌+◌, ◌-◌, ◌<◌, ◌∙◌, ◌∷◌, ◌≡◌, ◌≤◌, false≢true, ⊤, sizes_of}
 use Rattle.cap_spec.proofs.ProofNames.{length, plain_words, rules}
 use Rattle.cap_spec.proofs.Strict.Faults.{strict_wider, within_wider}
 use Rattle.cap_vet.specs.PathDemands.{KeepsToLimits, MeetsOnPath}
 use Rattle.cap_vet.specs.VetNames.{Meets, words_under, IsAccepted}
 use Rattle.cap_calls.specs.AnswerNumbers.{answer_number}
-use Rattle.cap_calls.specs.CallFindings.{accepted, without}
-use Rattle.cap_calls.specs.CallFlags.{AllowsMore, allows_nonstrict}
+use Rattle.cap_calls.specs.CallFindings.{accepted, detail_of, framed_found, without}
+use Rattle.cap_calls.specs.CallFlags.{AllowsMore, allows_nonstrict, charge_limit}
+use Rattle.cap_calls.specs.Slices.{segments_in, words_in}
 use Rattle.cap_calls.specs.CallInputs.{AreInputLimits, AreWordLimits}
 use Rattle.cap_calls.specs.CallLaws.{RefusesNothing}
 use Rattle.cap_calls.specs.CallNames.{Reason, Step, StrictRefusal, Report, reason_answer, refusal_answer, Judges, Reports}
@@ -18,6 +19,8 @@ use Rattle.cap_calls.specs.CallNames.{Answer, Found, NoFrame, CallLimits, CallNo
 use Rattle.cap_calls.specs.CallNames.{a_node, a_path, bad_path, no_meeting, no_node, none_node, path_found, EndsRange}
 use Rattle.cap_calls.specs.CallNames.{GetsRange, full, path_after, stops, message}
 use Rattle.cap_calls.specs.EarlierCalls.{FindsEarlier, earlier}
+use Rattle.cap_calls.specs.CallFlags.{has_no_table}
+use Rattle.cap_calls.specs.ExplainCalls.{FindsLines}
 use Rattle.cap_calls.specs.NodeCalls.{ReportsPath, bad_limits}
 use Rattle.cap_calls.specs.PointerCalls.{FindsPointer, IsCounted, too_small, written}
 use Rattle.cap_calls.specs.RangeCalls.{ReportsSteps}
@@ -26,6 +29,7 @@ use Rattle.cap_calls.specs.declared.slices.SlicesFault.{SlicesFault}
 use Rattle.cap_calls.proofs.Answers.{one_extent}
 use Rattle.cap_calls.specs.CallInputs as input
 use Rattle.cap_calls.specs.EarlierCalls as earlier_call
+use Rattle.cap_calls.specs.ExplainCalls as lines
 use Rattle.cap_calls.specs.PointerCalls as pointer
 use Rattle.cap_calls.specs.RangeCalls as range
 use Rattle.cap_calls.specs.SegmentsCalls as parts
@@ -63,6 +67,10 @@ same_answer f g e = ap (λ (z : Found). z.answer) e
 
 kept : (a b : Answer) → a ≡ b → RefusesNothing a → RefusesNothing b
 kept a b e h = subst RefusesNothing e h
+
+-- an answer that refuses nothing has its own detail
+same_detail : (a : Answer) (x y d : ℕ) → RefusesNothing a → detail_of a x d ≡ detail_of a y d
+same_detail a x y d ok = search rules
 
 -- a flag that is not set in k is not set in l
 unset : (b c : Bool) → (b ≡ true → c ≡ true) → not c ≡ true → not b ≡ true
@@ -143,6 +151,14 @@ module _ (l k : CallLimits) (more : AllowsMore l k) where
   may_trail : not (allows_trailing k) ≡ true → not (allows_trailing l) ≡ true
   may_trail e = unset (allows_trailing l) (allows_trailing k) more.trailing e
 
+  -- of what isn't refused the limit of the charge isn't reported
+  same_framed : (x : ℕ) (m : List (List ℕ)) (f g : Found) → f ≡ framed_found l x m g → RefusesNothing f.answer
+      → f ≡ framed_found k x m g
+  same_framed x m f g e ok =
+      let same = same_detail g.answer (charge_limit l m) (charge_limit k m) g.report.detail
+      (subst RefusesNothing (ap (λ (z : Found). z.answer) e) ok) in
+      e ∙ ap (λ (d : ℕ). record (framed_found k x m g) { report = record (framed_found k x m g).report { detail = d } }) same
+
   -- what is reported of bytes, if what is found of a message is found with the higher limits too
   module _ {K : Type 0} {P Q : List (List ℕ) → ℕ → ℕ → Found → Type 0} (bs : List ℕ) (f : Found)
       (ok : RefusesNothing f.answer)
@@ -150,7 +166,7 @@ module _ (l k : CallLimits) (more : AllowsMore l k) where
     pub reported : AreLimits k → Reports K P l bs f → Reports K Q k bs f
     reported good (without c h e i) = absurd (cause_refuses c (subst (λ (z : Found). RefusesNothing z.answer) e ok))
     reported good (framed m x y g h i e) =
-        framed m x y g (frame bs x y m good h) (p m g (ap (λ (z : Found). z.answer) e) i) e
+        framed m x y g (frame bs x y m good h) (p m g (ap (λ (z : Found). z.answer) e) i) (same_framed x m f g e ok)
 
     pub whole_reported : (w v : Bool) → (v ≡ true → w ≡ true) → AreLimits k → ReportsWhole w K P l bs f
         → ReportsWhole v K Q k bs f
@@ -160,7 +176,7 @@ module _ (l k : CallLimits) (more : AllowsMore l k) where
         absurd (cause_refuses c (subst (λ (z : Found). RefusesNothing z.answer) e ok))
     whole_reported w v t good (reports only (framed m x y g h i e)) =
         reports (none bs x y m v w good h only t)
-        (framed m x y g (frame bs x y m good h) (p m g (ap (λ (z : Found). z.answer) e) i) e)
+        (framed m x y g (frame bs x y m good h) (p m g (ap (λ (z : Found). z.answer) e) i) (same_framed x m f g e ok))
 
     pub input_reported : (w v : Bool) → (v ≡ true → w ≡ true) → AreInputLimits k → ReportsInput w K P l bs f
         → ReportsInput v K Q k bs f
@@ -171,7 +187,8 @@ module _ (l k : CallLimits) (more : AllowsMore l k) where
     input_reported w v t good (input.of_words y g h i e) =
         let on = sym more.table ∙ y in
         input.of_words on g (wider_words bs (good.words on) h)
-        (p (plain_words bs ∷ []) g (ap (λ (z : Found). z.answer) e) i) e
+        (p (plain_words bs ∷ []) g (ap (λ (z : Found). z.answer) e) i)
+        (same_framed (length bs) (plain_words bs ∷ []) f g e ok)
 
     pub flags_reported : AreInputLimits k → ReportsInput (not (allows_trailing l)) K P l bs f
         → ReportsInput (not (allows_trailing k)) K Q k bs f
@@ -248,7 +265,8 @@ module _ (l k : CallLimits) (more : AllowsMore l k) where
   parts_reported ps f good ok (message are s g j e) =
       message good
       (record { some = s.some; few = s.few; whole = s.whole; within = omega (arith, s.within, more.size) })
-      g (judged _ g (subst (λ (z : Found). RefusesNothing z.answer) e ok) j) e
+      g (judged _ g (subst (λ (z : Found). RefusesNothing z.answer) e ok) j)
+      (same_framed (8 * words_in ps) (segments_in ps) f g e ok)
 
   -- the path to a pointer, and the earlier pointer of an overlap
   counted : (m : List (List ℕ)) (n : ℕ) (path : List Step) → IsCounted m l.charge l.depth n path
@@ -285,6 +303,22 @@ module _ (l k : CallLimits) (more : AllowsMore l k) where
   judged_reported {K} {F} bs f good ok t =
       flags_reported {P = Judges (demands_of l) K F} {Q = Judges (demands_of k) K F} bs f ok
       (λ m g e h. judged m g (kept f.answer g.answer e ok) h) good t
+
+  -- the call that also explains
+  lines_found : (t u : Bool) (old : List ℕ) (n : ℕ) (new : List ℕ) (m : List (List ℕ)) (g : Found) → RefusesNothing g.answer
+      → FindsLines t old n new (demands_of l) m l.charge l.depth g → FindsLines u old n new (demands_of k) m k.charge k.depth g
+  lines_found t u old n new m g ok (lines.explained v h x e) =
+      absurd (refusal_refuses v (subst (λ (z : Found). RefusesNothing z.answer) e ok))
+  lines_found t u old n new m g ok (lines.accepted v h j e a b) = lines.accepted v (accepts m v h) (meets m j) e a b
+
+  pub explained_reported : {K : Type 0} (old : List ℕ) (n : ℕ) (new : List ℕ) (bs : List ℕ) (f : Found) → AreInputLimits k
+      → RefusesNothing f.answer
+      → ReportsInput (not (allows_trailing l)) K (FindsLines (not (has_no_table l)) old n new (demands_of l)) l bs f
+      → ReportsInput (not (allows_trailing k)) K (FindsLines (not (has_no_table k)) old n new (demands_of k)) k bs f
+  explained_reported {K} old n new bs f good ok t =
+      flags_reported {P = FindsLines (not (has_no_table l)) old n new (demands_of l)}
+      {Q = FindsLines (not (has_no_table k)) old n new (demands_of k)} bs f ok
+      (λ m g e h. lines_found (not (has_no_table l)) (not (has_no_table k)) old n new m g (kept f.answer g.answer e ok) h) good t
 
   pub alone_reported : {K : Type 0} {F : List (List ℕ) → Report → Found → Type 0} (bs : List ℕ) (f : Found)
       → AreInputLimits k → RefusesNothing f.answer → ReportsInput true K (Judges (demands_of l) K F) l bs f

@@ -7,7 +7,7 @@ use Rattle.cap_calls.specs.declared.answer.Answer.{Answer}
 use Rattle.cap_calls.specs.declared.answer.Answer.TheVariants.{BadLimits, BadPath, BadSegment, BufferTooSmall}
 use Rattle.cap_calls.specs.declared.answer.Answer.TheVariants.{CapabilityPad, CompositeOverrun, CompositeTag}
 use Rattle.cap_calls.specs.declared.answer.Answer.TheVariants.{DepthLimit, EmptySegment, Good, HasCapability}
-use Rattle.cap_calls.specs.declared.answer.Answer.TheVariants.{ManySegments, NoMessage, NoNode, NoRoot, NoSegment}
+use Rattle.cap_calls.specs.declared.answer.Answer.TheVariants.{ManySegments, NoMessage, NoNode, NoRoot}
 use Rattle.cap_calls.specs.declared.answer.Answer.TheVariants.{NotCanonical, NullPad, OutOfSegment, Overlap, PadIsFar}
 use Rattle.cap_calls.specs.declared.answer.Answer.TheVariants.{PadNotFar, PadOutside, Reserved, SegmentMissing, TagKind}
 use Rattle.cap_calls.specs.declared.answer.Answer.TheVariants.{TagOffset, TooLarge, TooManySegments, Trailing}
@@ -27,7 +27,6 @@ answer_number Trailing = 5
 answer_number BadLimits = 8
 answer_number BufferTooSmall = 9
 answer_number BadPath = 10
-answer_number NoSegment = 11
 answer_number BadSegment = 12
 answer_number NotCanonical = 16
 answer_number HasCapability = 17

@@ -20,3 +20,7 @@ pack_bound long = long / 8 * 10
 -- the most bytes of an explanation: CAPVET_EXPLANATION_BOUND
 abbrev pub explanation_bound : ℕ
 explanation_bound = 6144
+
+-- the most bytes of the lines of an overlap: CAPVET_OVERLAP_BOUND
+abbrev pub overlap_bound : ℕ
+overlap_bound = 12288

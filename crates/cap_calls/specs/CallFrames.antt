@@ -8,7 +8,7 @@ use Rattle.cap_calls.specs.declared.front.NoFrame.{NoFrame}
 use Rattle.cap_calls.specs.declared.front.NoFrame.TheVariants.{BadLimits, Fault, NoMessage}
 use Rattle.cap_calls.specs.declared.limits.CallLimits.{CallLimits}
 
--- no limit is above its maximum, no flag is unknown, and the reserved fields are 0
+-- no limit is above its maximum, no flag is unknown, the input is a message or starts with one, and the reserved fields are 0
 pub record AreLimits (l : CallLimits) : Type 0 where
   pub small : l.message_words ≤ most_words
   pub few : l.charge ≤ most_words

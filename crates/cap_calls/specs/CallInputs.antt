@@ -1,4 +1,4 @@
--- The input of a call: a frame, or with the flag 8 the words of one segment (profile; standard: 64-bit Words).
+-- The input of a call: a frame, or by its form the words of one segment (profile; standard: 64-bit Words).
 use Rattle.std.specs.Prelude.{Bool, IsFalse, IsTrue, List, [], length, ℕ, ◌%◌, ◌*◌, ◌+◌, ◌/◌, ◌<◌, ◌∷◌, ◌≡◌, ◌≤◌}
 use Rattle.cap_spec.specs.SpecNames.{most_depth, most_words, plain_words}
 use Rattle.cap_frame.specs.declared.fault.FrontFault.TheVariants.{TooLarge, TooManySegments, Truncated}
@@ -10,14 +10,14 @@ use Rattle.cap_calls.specs.declared.front.NoFrame.{NoFrame}
 use Rattle.cap_calls.specs.declared.front.NoFrame.TheVariants.{BadLimits, Fault, NoMessage}
 use Rattle.cap_calls.specs.declared.limits.CallLimits.{CallLimits}
 
--- with the flag 8: no limit is above its maximum, the other flags may be set beside it, and the reserved fields are 0
+-- for words: no limit is above its maximum, no flag is unknown, and the reserved fields are 0
 pub record AreWordLimits (l : CallLimits) : Type 0 where
   pub small : l.message_words ≤ most_words
   pub few : l.charge ≤ most_words
   pub shallow : l.depth ≤ most_depth
   pub flags : HasWordFlags l
 
--- the same, with or without the flag 8
+-- the same, for a frame or for words
 pub record AreInputLimits (l : CallLimits) : Type 0 where
   pub frame : IsFalse (has_no_table l) → AreLimits l
   pub words : IsTrue (has_no_table l) → AreWordLimits l
@@ -39,12 +39,12 @@ pub record HasWords (l : CallLimits) (bytes : List ℕ) : Type 0 where
   pub within : length bytes ≤ 8 * l.message_words
   pub whole : length bytes % 8 ≡ 0
 
--- What a call reports of its input. It is a frame, or with the flag 8 a segment: its length is then the input's.
+-- What a call reports of its input. It is a frame, or by its form a segment: its length is then the input's.
 pub data ReportsInput (whole : Bool) (kept : Type 0) (finds : List (List ℕ) → ℕ → ℕ → Found → Type 0) (l : CallLimits)
     (bytes : List ℕ) (f : Found) : Type 0 where
   of_frame : IsFalse (has_no_table l) → ReportsWhole whole kept finds l bytes f → ReportsInput whole kept finds l bytes f
   of_no_words : IsTrue (has_no_table l) → (cause : NoFrame) → HasNoWords l bytes cause → f ≡ none_found cause → kept
       → ReportsInput whole kept finds l bytes f
   of_words : IsTrue (has_no_table l) → (g : Found) → HasWords l bytes → finds (plain_words bytes ∷ []) l.charge l.depth g
-      → f ≡ framed_found (length bytes) 1 g
+      → f ≡ framed_found l (length bytes) (plain_words bytes ∷ []) g
       → ReportsInput whole kept finds l bytes f

@@ -1,5 +1,6 @@
 -- What the laws of calls speak of: answers that refuse nothing, and the pointer that an answer names (profile).
-use Rattle.std.specs.Prelude.{IsFalse, IsTrue, List, [], drop, false, length, map, ℕ, ⊤, ◌++◌, ◌<◌, ◌∷◌, ◌≡◌, ◌≤◌}
+use Rattle.std.specs.List.{AllByRecursion}
+use Rattle.std.specs.Prelude.{IsFalse, IsTrue, List, [], drop, false, length, map, take, ℕ, ⊤, ◌++◌, ◌<◌, ◌∷◌, ◌≡◌, ◌≤◌}
 use Rattle.std.specs.Prelude.{◌⊎◌}
 use Rattle.cap_spec.specs.Paths.{IsNumbered}
 use Rattle.cap_spec.specs.Plain.{plain_words}
@@ -8,6 +9,7 @@ use Rattle.cap_vet.specs.declared.demands.Demands.{Demands}
 use Rattle.cap_calls.specs.CallFlags.{has_no_table}
 use Rattle.cap_calls.specs.CallFrames.{HasFrame}
 use Rattle.cap_calls.specs.CallInputs.{HasWords}
+use Rattle.cap_calls.specs.CanonicalCalls.{ReportsCopy}
 use Rattle.cap_calls.specs.PointerCalls.{ReportsPointer, call_step}
 use Rattle.cap_calls.specs.declared.answer.Answer.{Answer}
 use Rattle.cap_calls.specs.declared.answer.Answer.TheVariants.{BufferTooSmall, CapabilityPad, CompositeOverrun}
@@ -53,7 +55,7 @@ NamesPointer DepthLimit = ⊤
 NamesPointer WordLimit = ⊤
 NamesPointer _ = ⊥
 
--- The input is or starts with the frame of this message, or with the flag 8 is the words of its one segment.
+-- The input is or starts with the frame of this message, or by its form is the words of its one segment.
 abbrev pub HasMessage : CallLimits → List ℕ → List (List ℕ) → Type 0
 HasMessage l bytes m =
     (IsFalse (has_no_table l) × ((frame segments : ℕ) × HasFrame l bytes frame segments m))
@@ -79,3 +81,12 @@ pub record FindsPlace (l : CallLimits) (bytes : List ℕ) (n : ℕ) (c : Pointer
   pub written : length path ≤ length c.before
       → (c.returned ≡ Good) × (c.after ≡ map call_step path ++ drop (length path) c.before)
   pub too_small : length c.before < length path → (c.returned ≡ BufferTooSmall) × (c.after ≡ c.before)
+
+-- these numbers are bytes
+abbrev pub AreBytes : List ℕ → Type 0
+AreBytes bytes = AllByRecursion (λ b. b < 256) bytes
+
+-- The call for a canonical copy wrote this copy at the start of some buffer, and reported this.
+abbrev pub WritesCopy : CallLimits → List ℕ → List ℕ → CallReport → Type 0
+WritesCopy l bytes copy r = (old new : List ℕ) × ReportsCopy l bytes old Good (length copy) new r
+    × (copy ≡ take (length copy) new)

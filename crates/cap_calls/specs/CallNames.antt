@@ -34,7 +34,6 @@ pub use Rattle.cap_calls.specs.PointerCalls.{call_step, steps_found}
 pub use Rattle.cap_calls.specs.RangeCalls.{AreSteps, EndsRange, GetsRange, ReportsRange, full, past, path_after}
 pub use Rattle.cap_calls.specs.RangeCalls.{step_after, stops, unknown}
 pub use Rattle.cap_calls.specs.RangeShortcut.{HasCount, IsShortcutNode, WritesFirst}
-pub use Rattle.cap_calls.specs.SegmentCalls.{found}
 pub use Rattle.cap_calls.specs.SegmentsCalls.{ReportsSegments, message}
 pub use Rattle.cap_calls.specs.Slices.{AreSegments, ReportsNoSegments, segments_in, words_in}
 pub use Rattle.cap_calls.specs.UnpackingMessages.{Appends, IsOpen, IsState, StopsCall, ReportsUnpackMessage, bad}

@@ -2,7 +2,9 @@
 use Rattle.std.specs.Prelude.{replicate, unwrap_or, ℕ}
 use Rattle.cap_spec.specs.declared.StrictRefusal.{StrictRefusal}
 use Rattle.cap_spec.specs.declared.StrictRefusal.TheVariants.{ManySegments, Pointer, Refused}
+use Rattle.cap_difference.specs.declared.difference.Difference.{Difference}
 use Rattle.cap_vet.specs.declared.walk.vetting.Report.{Report}
+use Rattle.cap_calls.specs.DifferenceNumbers.{reason_number}
 use Rattle.cap_calls.specs.declared.answer.Answer.{Answer}
 use Rattle.cap_calls.specs.declared.front.NoFrame.{NoFrame}
 use Rattle.cap_calls.specs.declared.front.NoFrame.TheVariants.{BadLimits, Fault, NoMessage}
@@ -24,7 +26,8 @@ none_report =
       segments = 0;
       segment = 0;
       word = 0;
-      reserved = replicate 4 0;
+      words = 0;
+      reserved = replicate 6 0;
     }
 
 -- of bytes without a frame: how many segments or words it would have
@@ -73,6 +76,16 @@ accepted_report report =
       depth = report.depth;
       segment = first.0;
       word = first.1;
+    }
+
+-- of one that is accepted and isn't canonical: its first difference, and the number of the reason
+abbrev pub difference_report : Difference → Report → CallReport
+difference_report difference report =
+    record (accepted_report report) {
+      detail = reason_number difference.reason;
+      pointers = difference.pointers;
+      segment = difference.segment;
+      word = difference.word;
     }
 
 -- what is answered for bytes without a frame

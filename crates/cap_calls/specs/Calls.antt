@@ -4,7 +4,7 @@ use Rattle.std.specs.Prelude.{List, not, true, ℕ, ⊤, ◌≡◌}
 use Rattle.cap_spec.specs.Copies.{IsCanonical}
 use Rattle.cap_vet.specs.declared.walk.vetting.Report.{Report}
 use Rattle.cap_calls.specs.CallFindings.{Judges, Returns, Reports, ReportsWhole, accepted_found}
-use Rattle.cap_calls.specs.CallFlags.{allows_trailing, demands_of}
+use Rattle.cap_calls.specs.CallFlags.{allows_trailing, copy_limits, demands_of}
 use Rattle.cap_calls.specs.CallInputs.{ReportsInput}
 use Rattle.cap_calls.specs.CallReports.{none_report}
 use Rattle.cap_calls.specs.declared.answer.Answer.{Answer}
@@ -21,7 +21,7 @@ FindsFrame m words depth f = f ≡ record { answer = Good; count = 0; report = n
 abbrev pub ReportsFrame : CallLimits → List ℕ → Answer → CallReport → Type 0
 ReportsFrame l bytes a r = (f : Found) × Reports ⊤ FindsFrame l bytes f × Returns f a r
 
--- What a call reports of the message that the bytes are, or start with if the flags allow it.
+-- What a call reports of the message that the bytes are, or by the form start with.
 abbrev pub ReportsMessage : Type 0 → (List (List ℕ) → ℕ → ℕ → Found → Type 0) → CallLimits → List ℕ → Found → Type 0
 ReportsMessage kept finds l = ReportsWhole (not (allows_trailing l)) kept finds l
 
@@ -38,6 +38,10 @@ pub data IsCheck (m : List (List ℕ)) (report : Report) (f : Found) : Type 0 wh
   canonical : IsCanonical m → f ≡ accepted_found Good 0 report → IsCheck m report f
   not_canonical : ¬ IsCanonical m → f ≡ accepted_found NotCanonical 0 report → IsCheck m report f
 
--- of the message that the input is: no bytes may follow it, whatever the flags allow
+-- of the message that the input is: no bytes may follow it, whatever the form says
 abbrev pub ReportsCheck : CallLimits → List ℕ → Answer → CallReport → Type 0
 ReportsCheck l bytes a r = (f : Found) × ReportsInput true ⊤ (Judges (demands_of l) ⊤ IsCheck) l bytes f × Returns f a r
+
+-- of words without a table, as a canonical copy has them
+abbrev pub ReportsCheckWords : CallLimits → List ℕ → Answer → CallReport → Type 0
+ReportsCheckWords l words a r = ReportsCheck (copy_limits l) words a r

@@ -37,7 +37,7 @@ ReportsCopy l bytes old a n new r =
     (f : Found) × ReportsInput (not (allows_trailing l)) (new ≡ old) (Copies old new (demands_of l)) l bytes f
     × Returns f a r × (n ≡ f.count)
 
--- The same with all three flags.
+-- The same with both flags.
 abbrev pub ReportsAnyCopy : CallLimits → List ℕ → List ℕ → Answer → ℕ → List ℕ → CallReport → Type 0
 ReportsAnyCopy l bytes old a n new r =
     (f : Found) × Reports (new ≡ old) (JudgesAny (new ≡ old) (FindsCopy old new)) l bytes f × Returns f a r

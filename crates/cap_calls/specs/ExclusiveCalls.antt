@@ -61,7 +61,7 @@ fault_found n (fault.Refused refusal) = refused_found (Refused refusal)
 fault_found n (fault.BufferTooSmall needed report) = accepted_found answer.BufferTooSmall n report
 fault_found n (fault.Overlap s w pointers) = overlap_found n s w pointers
 
--- The message isn't exclusive, or it is accepted and exclusive. So a call finds with all three flags.
+-- The message isn't exclusive, or it is accepted and exclusive. So a call finds with both flags.
 abbrev pub MarksAny : ℕ → List (List ℕ) → ℕ → ℕ → Found → Type 0
 MarksAny size m words depth f =
     ((fault : ExclusiveFault) × IsExclusiveFault m words depth size fault × (f ≡ fault_found (marks_of m) fault))

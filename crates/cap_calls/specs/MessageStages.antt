@@ -1,5 +1,6 @@
 -- How a message goes on of which a buffer holds the first bytes (profile).
-use Rattle.std.specs.Prelude.{List, [], drop, length, take, ℕ, ⊤, ◌%◌, ◌+◌, ◌<◌, ◌≡◌, ◌≤◌}
+use Rattle.std.specs.Prelude.{List, [], drop, length, sum, take, ℕ, ⊤, ◌%◌, ◌+◌, ◌<◌, ◌≡◌, ◌≤◌}
+use Rattle.cap_spec.specs.Frames.{sizes_of}
 use Rattle.cap_frame.specs.Fronts.{IsFront, GivesLarge, GivesMany}
 use Rattle.cap_calls.specs.PackedStreams.{WritesWords, words_to_come}
 use Rattle.cap_calls.specs.UnpackingMessages.{IsOpen}
@@ -10,7 +11,8 @@ use Rattle.cap_calls.specs.declared.packed_stream.Given.{Given}
 -- what a stage says of the bytes
 abbrev pub IsStage : ℕ → List ℕ → Stage → Type 0
 IsStage limit held (Open needed) = IsOpen limit held needed
-IsStage limit held (Whole segments) = (m : List (List ℕ)) × (n : ℕ) × IsFront limit held m n × (segments ≡ length m)
+IsStage limit held (Whole segments words) = (m : List (List ℕ)) × (n : ℕ) × IsFront limit held m n × (segments ≡ length m)
+    × (words ≡ sum (sizes_of m))
 IsStage limit held (TooMany count) = GivesMany held count
 IsStage limit held (TooLarge words) = GivesLarge limit held words
 
@@ -18,7 +20,7 @@ IsStage limit held (TooLarge words) = GivesLarge limit held words
 abbrev pub CannotAppend : Stage → ℕ → Given → List ℕ → Type 0
 CannotAppend (Open needed) size g rest =
     g.written + 8 ≤ size → words_to_come g.zeros g.literal rest ≡ []
-CannotAppend (Whole segments) size g rest = ⊤
+CannotAppend (Whole segments words) size g rest = ⊤
 CannotAppend (TooMany count) size g rest = ⊤
 CannotAppend (TooLarge words) size g rest = ⊤
 

@@ -44,7 +44,7 @@ pub data Gets (path : List Step) (node : CallNode) (demands : Demands) (m : List
       → Gets path node demands m words depth f
 
 -- Of a text: a limit is bad, or the text isn't a path, or this is found of its path in the message that the
--- bytes are, or start with if the flags allow it.
+-- bytes are, or by the form start with.
 pub data ReportsPath (l : CallLimits) (bytes text : List ℕ) (node : CallNode) (f : Found) : Type 0 where
   bad_limits : ¬ AreLimits l → f ≡ none_found BadLimits → node ≡ none_node → ReportsPath l bytes text node f
   bad_path : (at : ℕ) → AreLimits l → IsBadAt text at → f ≡ bad_path_found at → node ≡ none_node

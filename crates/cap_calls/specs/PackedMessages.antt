@@ -21,7 +21,7 @@ abbrev pub PacksShort : List ℕ → List ℕ → List (List ℕ) → ℕ → �
 PacksShort old new m words depth f = Packs old new m words depth f
     × (f.count ≤ 10 * (table_words (length m) + sum (sizes_of m)))
 
--- Of the message that the bytes are, or start with if the flags allow it: n bytes are the length of
+-- Of the message that the bytes are, or by the form start with: n bytes are the length of
 -- its packed text.
 abbrev pub ReportsPackMessage : CallLimits → List ℕ → List ℕ → Answer → ℕ → List ℕ → CallReport → Type 0
 ReportsPackMessage l bytes old a n new r =

@@ -42,7 +42,7 @@ pub data FindsSegments (l : CallLimits) (parts : List (List ℕ)) (f : Found) : 
       → FindsSegments l parts f
   message : AreLimits l → AreSegments l.message_words parts → (g : Found)
       → Judges (demands_of l) ⊤ IsGood (segments_in parts) l.charge l.depth g
-      → f ≡ framed_found (8 * words_in parts) (length parts) g
+      → f ≡ framed_found l (8 * words_in parts) (segments_in parts) g
       → FindsSegments l parts f
 
 -- the bytes are a frame of these segments, within the limits

@@ -1,7 +1,8 @@
 -- What the call that unpacks one message of a stream, a piece at a time, returns and writes
 -- (standard: Packing, Serialization Over a Stream; where each call stops is the profile's).
-use Rattle.std.specs.Prelude.{Err, List, [], drop, if◌then◌else◌, length, slice_index, take, ℕ, ◌%◌, ◌*◌, ◌++◌, ◌+◌}
+use Rattle.std.specs.Prelude.{Err, List, [], drop, if◌then◌else◌, length, slice_index, sum, take, ℕ, ◌%◌, ◌*◌, ◌++◌, ◌+◌}
 use Rattle.std.specs.Prelude.{◌<◌, ◌==◌, ◌≡◌, ◌≢◌, ◌≤◌, ◌⊎◌}
+use Rattle.cap_spec.specs.Frames.{sizes_of}
 use Rattle.cap_spec.specs.Plain.{plain_text}
 use Rattle.cap_frame.specs.FrameNames.{ReportsFront, IsFront, GivesLarge, GivesMany}
 use Rattle.cap_frame.specs.declared.fault.FrontFault.TheVariants.{Truncated}
@@ -49,7 +50,8 @@ pub data StopsCall (limit size : ℕ) (held : List ℕ) (zeros literal : ℕ) (r
     (r : CallReport) : Type 0 where
   -- the message is whole
   whole : (m : List (List ℕ)) → IsFront limit held m (length held) → a ≡ answer.Good → required ≡ length held
-      → written ≡ 0 → r ≡ record none_report { length = length held; segments = length m }
+      → written ≡ 0
+      → r ≡ record none_report { length = length held; segments = length m; words = sum (sizes_of m) }
       → StopsCall limit size held zeros literal rest a required written r
   -- it has too many segments, or too many words
   too_many : (count : ℕ) → GivesMany held count → a ≡ answer.TooManySegments → required ≡ 0 → written ≡ length held

@@ -2,6 +2,7 @@
 
 use crate::answer::Answer;
 use crate::front::NoFrame;
+use crate::limits::CallLimits;
 use crate::report::CallReport;
 use cap_frame::Framed;
 use cap_spec::StrictRefusal;
@@ -17,9 +18,9 @@ pub(crate) struct Found {
 }
 
 impl Found {
-    ghost use Rattle.cap_calls.specs.CallFindings.{accepted_found, framed_found, none_found, refused_found, trailing_found};
+    ghost use Rattle.cap_calls.specs.CallFindings.{accepted_found, extent_found, framed_found, none_found, refused_found, trailing_found};
     ghost use Rattle.cap_frame.specs.Framed.{frame_bytes, framed_segments};
-    ghost use Rattle.std.specs.Prelude.{◌≡◌, length};
+    ghost use Rattle.std.specs.Prelude.{◌≡◌};
 
     // Of bytes without a frame.
     pub(crate) fn without(cause: NoFrame) -> Found
@@ -66,22 +67,32 @@ impl Found {
     }
 
     // The same with the extent of the frame.
-    pub(crate) fn framed(self, framed: &Framed<'_>) -> Found
-        ensures { result ≡ framed_found (frame_bytes framed.now)
-            (length (framed_segments framed.now)) self }
+    #[inline]
+    pub(crate) fn framed(self, framed: &Framed<'_>, limits: &CallLimits) -> Found
+        ensures { result ≡ framed_found limits.now (frame_bytes framed.now)
+            (framed_segments framed.now) self }
     {
-        self.extent(framed.length(), framed.count())
+        let words = framed.words();
+        let limit = limits.charge_limit(words);
+        self.extent(framed.length(), framed.count(), words, limit)
     }
 
-    // The same with the length of the input in bytes, and how many segments it has.
+    // The same with the length of the input in bytes, its segments and their words. A charge was above
+    // this limit.
     #[inline(always)]
-    pub(crate) fn extent(self, bytes: usize, segments: u32) -> Found
-        ensures { result ≡ framed_found bytes segments self }
+    pub(crate) fn extent(self, bytes: usize, segments: u32, words: u64, limit: u64) -> Found
+        ensures { result ≡ extent_found bytes segments words limit self }
     {
+        let detail = match self.answer {
+            Answer::WordLimit => limit,
+            _ => self.report.detail,
+        };
         Found {
             report: CallReport {
                 length: bytes as u64,
+                detail,
                 segments,
+                words,
                 ..self.report
             },
             ..self

@@ -25,7 +25,7 @@ ghost use Rattle.std.specs.Prelude.{◌*◌, ◌+◌, ◌<◌, ◌≡◌, ◌≤
 
 /// If a message meets the demands, so do the pointers on each path. So [`crate::get`] and
 /// [`crate::get_range`] refuse no path in a message that [`crate::vet`] accepts with the same limits,
-/// without the flag 8. They find its node, or that nothing is there.
+/// of another form than words. They find its node, or that nothing is there.
 pub fn vetted_messages_have_their_nodes()
     ensures paths { (demands : Demands) (m : List (List ℕ)) (words depth : ℕ) →
         Meets demands m words depth →

@@ -6,7 +6,7 @@ ghost use Rattle.std.proofs.Props.{props};
 ghost use Rattle.std.specs.Prelude.{◌≡◌, [], ◌∷◌, length};
 
 use byteorder::{ByteOrder, LittleEndian};
-use cap_frame::{ByteView, Segments};
+use cap_frame::{ByteView, Segments, words_at};
 
 /// A message of one segment, with each word in eight bytes of a slice, the lowest first (encoding:
 /// Messages, 64-bit Words).
@@ -47,7 +47,21 @@ impl<'b> Segments for OneSlice<'b> {
 
     #[inline]
     fn word(&self, _s: u32, w: u32) -> u64 {
-        LittleEndian::read_u64(&self.bytes[8 * w as usize..])
+        let at = 8 * w as usize;
+        // A range with an end: rustc then compares the place once with the length of the bytes.
+        LittleEndian::read_u64(&self.bytes[at..at + 8])
+    }
+
+    #[inline]
+    fn bytes_at(&self, s: u32, start: u32, words: u32) -> Option<&[u8]> {
+        if s != 0 {
+            return None;
+        }
+        let end = u64::from(start) + u64::from(words);
+        if end > (self.bytes.len() / 8) as u64 {
+            return None;
+        }
+        Some(words_at(self.bytes, start as usize, words as usize))
     }
 
     ghost is_message = { λ m. m.is_message };

@@ -1,50 +1,54 @@
 //! The calls that C makes, under their names in `include/capvet.h`.
 #![tactic(auto)]
 
-ghost use Rattle.cap_calls.specs.Calls.{ReportsCheck, ReportsFrame, ReportsVet};
+ghost use Rattle.cap_calls.specs.Calls.{ReportsCheck, ReportsCheckWords, ReportsFrame, ReportsVet};
 ghost use Rattle.cap_calls.specs.AnswerNumbers.{answer_number};
 ghost use Rattle.cap_calls.specs.CallBounds.{canonical_bound, frame_bound, marks_bound, pack_bound};
 ghost use Rattle.cap_calls.specs.CallFlags.{allows_amplified, default_limits};
 ghost use Rattle.cap_calls.specs.CanonicalCalls.{ReportsCopy};
+ghost use Rattle.cap_calls.specs.DifferenceCalls.{ReportsDifference};
 ghost use Rattle.cap_calls.specs.EarlierCalls.{ReportsEarlierCall};
 ghost use Rattle.cap_calls.specs.ExclusiveCalls.{ReportsExclusive};
 ghost use Rattle.cap_calls.specs.ExplainCalls.{ReportsExplanation};
+ghost use Rattle.cap_calls.specs.ExtentCalls.{AreSegmentWords, ReportsExtents};
 ghost use Rattle.cap_calls.specs.NodeCalls.{ReportsGet};
+ghost use Rattle.cap_calls.specs.OverlapCalls.{ReportsOverlap};
 ghost use Rattle.cap_calls.specs.RangeCalls.{ReportsRange};
 ghost use Rattle.cap_calls.specs.PackCalls.{ReportsPack, ReportsUnpack};
 ghost use Rattle.cap_calls.specs.PointerCalls.{ReportsPointer};
-ghost use Rattle.cap_calls.specs.SegmentCalls.{AreSegmentWords, ReportsSegment};
 ghost use Rattle.cap_calls.specs.SegmentsCalls.{ReportsSegments};
 ghost use Rattle.cap_calls.specs.PackedMessages.{ReportsPackMessage};
 ghost use Rattle.cap_calls.specs.UnpackingMessages.{Leaves, ReportsUnpackMessage, Unpacked, UnpacksTo};
 ghost use Rattle.cap_calls.specs.declared.answer.Answer.{Answer};
 ghost use Rattle.cap_calls.specs.declared.answer.Answer.TheVariants.{Good, Overlap};
+ghost use Rattle.cap_calls.specs.declared.extent.CallExtent.{CallExtent};
 ghost use Rattle.cap_calls.specs.declared.node.CallNode.{CallNode};
 ghost use Rattle.cap_calls.specs.declared.report.CallReport.{CallReport};
 ghost use Rattle.cap_calls.specs.declared.step.CallStep.{CallStep};
 ghost use Rattle.cap_calls.specs.Slices.{bytes_of};
-ghost use Rattle.std.specs.Prelude.{◌*◌, ◌+◌, ◌/◌, ◌≡◌, ◌≤◌, ◌⊎◌, IsFalse, List, drop, length, min, ℕ};
+ghost use Rattle.std.specs.Prelude.{◌*◌, ◌+◌, ◌/◌, ◌≡◌, ◌≤◌, ◌⊎◌, IsFalse, List, drop, length, max, min, ℕ};
 
 use cap_calls::{
-    CallLimits, CallNode, CallReport, CallStep, Unpacking, canonical, canonical_size,
-    earlier_pointer, explain, frame, frame_size, get, get_range, is_canonical, marks_size, pack,
-    pack_message, pack_size, pointer_path, segment_at, unpack, unpack_message, version, vet,
-    vet_exclusive, vet_segments,
+    CallExtent, CallLimits, CallNode, CallReport, CallStep, OverlapPointer, Unpacking, canonical,
+    canonical_size, check_canonical, check_canonical_words, earlier_pointer, explain,
+    explain_overlap, first_difference, frame, frame_size, get, get_range, marks_size, pack,
+    pack_message, pack_size, pointer_path, reader_nesting, reader_words, segments, unpack,
+    unpack_message, version, vet, vet_exclusive, vet_segments,
 };
 
 /// Returns the version of the library: 65536 times its major number, 256 times its minor number,
 /// and the number of its patch.
 #[unsafe(no_mangle)]
 pub extern "C" fn capvet_version() -> u32
-    ensures { result ≡ 65792 }
+    ensures { result ≡ 131072 }
 {
     version()
 }
 
-/// Does nothing. Only a library of major version 1 has it, so a reference to it fails at link time
+/// Does nothing. Only a library of major version 2 has it, so a reference to it fails at link time
 /// in any other.
 #[unsafe(no_mangle)]
-pub extern "C" fn capvet_abi_1() {}
+pub extern "C" fn capvet_abi_2() {}
 
 /// The most bytes of a frame whose segments have `message_words` words: `CAPVET_FRAME_BOUND`.
 /// Above `CAPVET_MAX_MESSAGE_WORDS` it is the bound of that maximum.
@@ -81,6 +85,25 @@ pub extern "C" fn capvet_pack_bound(length: usize) -> usize
     pack_size(length)
 }
 
+/// The traversal limit that a reader needs for so many readings of the message with this report, in
+/// words: the larger of three times its charge and 2 more, and the words of its segments, for each.
+/// The greatest `u64`, if that is less.
+#[unsafe(no_mangle)]
+pub extern "C" fn capvet_reader_words(report: &CallReport, readings: u32) -> u64
+    ensures { result ≡ min (readings * max (3 * report.now.charge + 2) report.now.words)
+        18446744073709551615 }
+{
+    reader_words(report, readings)
+}
+
+/// The nesting limit that it needs: twice the depth and 1 more. The greatest `u32`, if that is less.
+#[unsafe(no_mangle)]
+pub extern "C" fn capvet_reader_nesting(report: &CallReport) -> u32
+    ensures { result ≡ min (2 * report.now.depth + 1) 4294967295 }
+{
+    reader_nesting(report)
+}
+
 /// Sets the limits to those of `CAPVET_LIMITS_INIT`.
 #[unsafe(no_mangle)]
 pub extern "C" fn capvet_limits_default(limits: &mut CallLimits)
@@ -90,7 +113,7 @@ pub extern "C" fn capvet_limits_default(limits: &mut CallLimits)
 }
 
 /// Returns in `report.length` the length in bytes of the frame that `bytes` start with. Reads only
-/// the table, and checks no pointer. Bytes may follow the frame, whatever the flags are. Only
+/// the table, and checks no pointer. Bytes may follow the frame, whatever the form is. Only
 /// `message_words` has an effect, though all limits are checked.
 ///
 /// If the result is `CAPVET_NO_MESSAGE` or `CAPVET_TRUNCATED`, `report.input_required` is how many
@@ -110,33 +133,43 @@ pub extern "C" fn capvet_frame(bytes: &[u8], limits: &CallLimits, report: &mut C
     frame(bytes, limits, report).number()
 }
 
-/// Reports where segment `index` of the frame that `bytes` start with is: its words start `offset`
-/// bytes after the first byte, and are `segment_length` bytes. Reads only the table.
-/// `CAPVET_NO_SEGMENT`: the message has no such segment. Without `CAPVET_OK` both numbers are 0.
-/// The result is the number of what [`segment_at`] returns. Allocates nothing.
+/// Reports where the segments of the frame that `bytes` start with are, in order: the words of each start
+/// `offset` bytes after the first byte, and are `length` bytes. Reads only the table, once. Bytes may
+/// follow the frame, whatever the form is. Only `message_words` has an effect, though all limits are
+/// checked.
+///
+/// With `CAPVET_OK`, the first `required` of `extents` are those of the segments, and the others are
+/// unchanged. With `CAPVET_BUFFER_TOO_SMALL`, `required` is how many segments there are, and with any
+/// other result 0. Without `CAPVET_OK`, `extents` is unchanged. The result is the number of what
+/// [`segments`] returns. The report is written whole. Allocates nothing.
 #[unsafe(no_mangle)]
-pub extern "C" fn capvet_segment_at(
+pub extern "C" fn capvet_segments(
     bytes: &[u8],
-    index: u32,
-    offset: &mut usize,
-    segment_length: &mut usize,
+    limits: &CallLimits,
+    extents: &mut [CallExtent],
+    required: &mut usize,
+    report: &mut CallReport,
 ) -> u32
     ensures reports { (a : Answer)
-        × ReportsSegment bytes.now index a offset.new segment_length.new
+        × ReportsExtents limits.now bytes.now extents.old a required.new extents.new report.new
         × (result ≡ answer_number a) }
-    // The bytes allow no other result.
-    ensures only { (a : Answer) (start size : ℕ) → ReportsSegment bytes.now index a start size →
-        (result ≡ answer_number a) × (offset.new ≡ start) × (segment_length.new ≡ size) }
-    // The words of the segment are the bytes there.
-    ensures words { AreSegmentWords bytes.now index offset.new segment_length.new }
+    // The bytes and the capacity allow no other result.
+    ensures only { (a : Answer) (n : ℕ) (new : List CallExtent) (r : CallReport) →
+        ReportsExtents limits.now bytes.now extents.old a n new r →
+        (result ≡ answer_number a) × (required.new ≡ n) × (extents.new ≡ new) × (report.new ≡ r) }
+    // The words of each segment are the bytes there.
+    ensures words { result ≡ answer_number Good →
+        AreSegmentWords limits.now.message_words bytes.now extents.new }
+    // This capacity is always enough.
+    ensures few { required.new ≤ 512 }
 {
-    segment_at(bytes, index, offset, segment_length).number()
+    segments(bytes, limits, extents, required, report).number()
 }
 
 /// Vets the message that `bytes` are. `CAPVET_OK`: its root denotes a finite tree that is inside
 /// its segments and within the limits. It is also strict, unamplified and the whole of `bytes`,
-/// each unless a flag allows more. Every such message is accepted. The result is the number of what
-/// [`vet`] returns. The report is written whole. Allocates nothing.
+/// each unless a flag or the form allows more. Every such message is accepted. The result is the
+/// number of what [`vet`] returns. The report is written whole. Allocates nothing.
 #[unsafe(no_mangle)]
 pub extern "C" fn capvet_vet(bytes: &[u8], limits: &CallLimits, report: &mut CallReport) -> u32
     ensures reports { (a : Answer) × ReportsVet limits.now bytes.now a report.new
@@ -236,10 +269,10 @@ pub extern "C" fn capvet_canonical(
 /// Checks that the message is canonical: it has one segment, and is its own canonical copy.
 /// `CAPVET_OK` if it is, and `CAPVET_NOT_CANONICAL` if it is accepted and is not, for example if it
 /// has a capability. Otherwise the result is the reason why it is not accepted. Bytes after the
-/// message give `CAPVET_TRAILING`, whatever the flags are. It is the number of
-/// what [`is_canonical`] returns. The report is written whole. Allocates nothing.
+/// message give `CAPVET_TRAILING`, whatever the form is. It is the number of
+/// what [`check_canonical`] returns. The report is written whole. Allocates nothing.
 #[unsafe(no_mangle)]
-pub extern "C" fn capvet_is_canonical(
+pub extern "C" fn capvet_check_canonical(
     bytes: &[u8],
     limits: &CallLimits,
     report: &mut CallReport,
@@ -250,7 +283,47 @@ pub extern "C" fn capvet_is_canonical(
     ensures only { (a : Answer) (r : CallReport) → ReportsCheck limits.now bytes.now a r →
         (result ≡ answer_number a) × (report.new ≡ r) }
 {
-    is_canonical(bytes, limits, report).number()
+    check_canonical(bytes, limits, report).number()
+}
+
+/// Checks words of one segment, without a table, as [`capvet_canonical`] writes them: they are
+/// canonical. Whatever the form and the flags are, nothing may follow them, and they may be
+/// amplified. The limits of words, charge and depth hold. It is the number of what
+/// [`check_canonical_words`] returns. The report is written whole. Allocates nothing.
+#[unsafe(no_mangle)]
+pub extern "C" fn capvet_check_canonical_words(
+    words: &[u8],
+    limits: &CallLimits,
+    report: &mut CallReport,
+) -> u32
+    ensures reports { (a : Answer) × ReportsCheckWords limits.now words.now a report.new
+        × (result ≡ answer_number a) }
+    // The bytes allow no other result.
+    ensures only { (a : Answer) (r : CallReport) → ReportsCheckWords limits.now words.now a r →
+        (result ≡ answer_number a) × (report.new ≡ r) }
+{
+    check_canonical_words(words, limits, report).number()
+}
+
+/// Finds the first pointer in preorder at which the message isn't as its canonical form has it, and the
+/// reason. The result is that of [`capvet_check_canonical`] for the same arguments, and but for
+/// `CAPVET_NOT_CANONICAL` the report is too. With that result `report.segment` and `report.word` are the
+/// place of the pointer, `report.pointers` is its number, and `report.detail` is that of the reason. The
+/// result is the number of what [`first_difference`] returns. The report is written whole. Allocates
+/// nothing.
+#[unsafe(no_mangle)]
+pub extern "C" fn capvet_first_difference(
+    bytes: &[u8],
+    limits: &CallLimits,
+    report: &mut CallReport,
+) -> u32
+    ensures reports { (a : Answer) × ReportsDifference limits.now bytes.now a report.new
+        × (result ≡ answer_number a) }
+    // The bytes allow no other result.
+    ensures only { (a : Answer) (r : CallReport) → ReportsDifference limits.now bytes.now a r →
+        (result ≡ answer_number a) × (report.new ≡ r) }
+{
+    first_difference(bytes, limits, report).number()
 }
 
 /// Follows `path` in the message, and reports the node there. Only the pointers on the path are
@@ -364,14 +437,15 @@ pub extern "C" fn capvet_earlier_pointer(
     earlier_pointer(bytes, limits, number, report).number()
 }
 
-/// Writes the lines that explain why [`capvet_vet`] refuses the message, to the start of `text`. They
-/// are the lines that the program's command `explain` writes after the line of the verdict.
-/// `CAPVET_NO_NODE`: the message is accepted.
+/// Vets the message as [`capvet_vet`] does, with the same result and report, and writes the lines that
+/// explain why it is refused, to the start of `text`. They are the lines that the program's command
+/// `explain` writes after the line of the verdict. If there is no message, or bytes follow it, there is
+/// one line, which has the reason as a sentence.
 ///
-/// With `CAPVET_OK`, `required` is the length of the lines in bytes, and the bytes after them are
-/// unchanged. With `CAPVET_BUFFER_TOO_SMALL` it is that length too, and with any other result 0. With
-/// both the report has the place of the refusal. Without `CAPVET_OK`, `text` is unchanged. The result
-/// is the number of what [`explain`] returns. The report is written whole. Allocates nothing.
+/// `required` is the length of the lines in bytes: 0 if the message is accepted, or a limit is bad. They
+/// are written if `text` has as many bytes, and the bytes after them are unchanged. Else `text` is
+/// unchanged. The result is the number of what [`explain`] returns. The report is written whole.
+/// Allocates nothing.
 #[unsafe(no_mangle)]
 pub extern "C" fn capvet_explain(
     bytes: &[u8],
@@ -380,6 +454,9 @@ pub extern "C" fn capvet_explain(
     required: &mut usize,
     report: &mut CallReport,
 ) -> u32
+    // It is the result and the report of [`capvet_vet`].
+    ensures vets { (a : Answer) × ReportsVet limits.now bytes.now a report.new
+        × (result ≡ answer_number a) }
     ensures reports { (a : Answer)
         × ReportsExplanation limits.now bytes.now text.old a required.new text.new report.new
         × (result ≡ answer_number a) }
@@ -393,6 +470,45 @@ pub extern "C" fn capvet_explain(
     explain(bytes, limits, text, required, report).number()
 }
 
+/// Writes the lines that explain an overlap to the start of `text`, by what [`capvet_vet_exclusive`]
+/// reports of it: the segment and the word of the pointer, and `pointers` as its number. They are the
+/// lines that the program's command `explain --exclusive` writes after the line of the verdict.
+///
+/// With `CAPVET_OK`, the lines are the first `required` bytes, and the others are unchanged. With
+/// `CAPVET_BUFFER_TOO_SMALL`, `required` is how many bytes they have, and with any other result 0.
+/// `CAPVET_NO_NODE`: [`capvet_pointer_path`] finds no path to that pointer. Without `CAPVET_OK`, `text` is
+/// unchanged. The result is the number of what [`explain_overlap`] returns. The report is written whole.
+/// Allocates nothing.
+#[unsafe(no_mangle)]
+pub extern "C" fn capvet_explain_overlap(
+    bytes: &[u8],
+    limits: &CallLimits,
+    segment: u32,
+    word: u32,
+    number: u64,
+    text: &mut [u8],
+    required: &mut usize,
+    report: &mut CallReport,
+) -> u32
+    ensures reports { (a : Answer) × ReportsOverlap limits.now bytes.now
+        (record { segment = segment; word = word; number = number }) text.old a required.new
+        text.new report.new × (result ≡ answer_number a) }
+    // The bytes, the pointer and the capacity allow no other result.
+    ensures only { (a : Answer) (n : ℕ) (new : List ℕ) (r : CallReport) →
+        ReportsOverlap limits.now bytes.now
+        (record { segment = segment; word = word; number = number }) text.old a n new r →
+        (result ≡ answer_number a) × (required.new ≡ n) × (text.new ≡ new) × (report.new ≡ r) }
+    // This capacity is always enough.
+    ensures few { required.new ≤ 12288 }
+{
+    let pointer = OverlapPointer {
+        segment,
+        word,
+        number,
+    };
+    explain_overlap(bytes, limits, pointer, text, required, report).number()
+}
+
 /// Packs the words of `bytes`, all of them, to the start of `out`; they need be no message.
 /// `CAPVET_TRUNCATED`: they are no whole words; it comes before `CAPVET_BUFFER_TOO_SMALL`.
 ///
@@ -401,7 +517,7 @@ pub extern "C" fn capvet_explain(
 /// `CAPVET_OK`, `out` is unchanged. The result is the number of what [`pack`] returns. Allocates
 /// nothing.
 #[unsafe(no_mangle)]
-pub extern "C" fn capvet_pack(bytes: &[u8], out: &mut [u8], required: &mut usize) -> u32
+pub extern "C" fn capvet_pack_words(bytes: &[u8], out: &mut [u8], required: &mut usize) -> u32
     ensures reports { (a : Answer) × ReportsPack bytes.now out.old a required.new out.new
         × (result ≡ answer_number a) }
     // The bytes and the capacity allow no other result.
@@ -422,7 +538,7 @@ pub extern "C" fn capvet_pack(bytes: &[u8], out: &mut [u8], required: &mut usize
 /// `CAPVET_OK`, `out` is unchanged. The result is the number of what [`unpack`] returns. Allocates
 /// nothing.
 #[unsafe(no_mangle)]
-pub extern "C" fn capvet_unpack(bytes: &[u8], out: &mut [u8], required: &mut usize) -> u32
+pub extern "C" fn capvet_unpack_words(bytes: &[u8], out: &mut [u8], required: &mut usize) -> u32
     ensures reports { (a : Answer) × ReportsUnpack bytes.now out.old a required.new out.new
         × (result ≡ answer_number a) }
     // The bytes and the capacity allow no other result.
@@ -434,7 +550,7 @@ pub extern "C" fn capvet_unpack(bytes: &[u8], out: &mut [u8], required: &mut usi
 
 /// Packs the message that `bytes` are to the start of `out`. Its table, with zero padding, and each
 /// of its segments are packed by themselves. So no run of words goes on from one into the next.
-/// Only `message_words` and `CAPVET_ALLOW_TRAILING` have an effect, though all limits are checked.
+/// Only `message_words` and the form have an effect, though all limits are checked.
 /// It checks no pointer.
 ///
 /// With `CAPVET_OK`, `required` is the length in bytes, and the bytes after it are unchanged. With

@@ -1,21 +1,21 @@
-//! The call that explains a refusal.
+//! The call that vets a message, and explains a refusal.
 
-ghost use Rattle.cap_calls.specs.CallReports.{refused_report};
-ghost use Rattle.cap_calls.specs.ExplainCalls.{FindsFewLines, ReportsExplanation, fault_lines};
-ghost use Rattle.cap_calls.specs.PackCalls.{ReportsText};
+ghost use Rattle.cap_calls.specs.CallFindings.{refused_found};
+ghost use Rattle.cap_calls.specs.Calls.{ReportsVet};
+ghost use Rattle.cap_calls.specs.ExplainCalls.{FindsFewLines, PutsText, ReportsExplanation, fault_lines, frame_line};
 ghost use Rattle.cap_calls.specs.declared.answer.Answer.{Answer};
 ghost use Rattle.cap_calls.specs.declared.report.CallReport.{CallReport};
 ghost use Rattle.cap_explain.specs.Charges.{ChargeOf};
 ghost use Rattle.cap_explain.specs.Explaining.{explanation};
 ghost use Rattle.cap_vet.specs.Demands.{IsDemandFault};
 ghost use Rattle.cap_vet.specs.Limits.{depth_of, words_of};
-ghost use Rattle.std.specs.Prelude.{◌≡◌, ◌≤◌, List, None, length, ℕ};
+ghost use Rattle.std.specs.Prelude.{◌≡◌, ◌≢◌, ◌≤◌, ◌⊎◌, [], List, None, length, ℕ};
 
 use crate::answer::Answer;
-use crate::calls::get::path_answer;
 use crate::found::Found;
 use crate::input::over_input;
 use crate::limits::CallLimits;
+use crate::one_slice::OneSlice;
 use crate::over::Call;
 use crate::report::CallReport;
 use cap_explain::{Explanation, Numbers, explain as explain_refusal, refusal_charge};
@@ -24,21 +24,14 @@ use cap_spec::StrictRefusal;
 use cap_trace::NamedPath;
 use cap_vet::{Demands, Limits, limits_under, vet_with};
 
-/// Writes the lines that explain why [`crate::vet`] refuses the message that bytes are, to the start
-/// of `text` (docs/output.md, explain). They are the lines that `capvet explain` writes after the
-/// line of the verdict, without the byte in the input. The flags are as for [`crate::vet`]. Allocates
-/// nothing.
+/// Vets the message that bytes are, as [`crate::vet`] does, and writes the lines that explain why it is
+/// refused to the start of `text` (docs/output.md, explain). They are the lines that `capvet explain`
+/// writes after the line of the verdict, without the byte in the input. If there is no message, or
+/// bytes follow it, there is one line, which has the reason as a sentence. Allocates nothing.
 ///
-/// The first of these that applies is returned:
-/// - why there is no frame, or [`Answer::Trailing`], as for [`crate::vet`]; `required` is 0;
-/// - [`Answer::NoNode`], if the message is accepted, so that no pointer is to be explained;
-///   `required` is 0;
-/// - [`Answer::BufferTooSmall`], if `text` is too small; `required` is the length of the lines in
-///   bytes;
-/// - [`Answer::Good`], and `required` is how many bytes were written.
-///
-/// With the last two the report has the place of the refusal. Without [`Answer::Good`], `text` is
-/// unchanged; with it, the bytes after the lines are. The report is written whole.
+/// It always returns and reports what [`crate::vet`] does. `required` is the length of the lines in
+/// bytes: 0 if the message is accepted, or a limit is bad. They are written if `text` has as many
+/// bytes, and those after them are unchanged. Else `text` is unchanged.
 pub fn explain(
     bytes: &[u8],
     limits: &CallLimits,
@@ -46,6 +39,8 @@ pub fn explain(
     required: &mut usize,
     report: &mut CallReport,
 ) -> Answer
+    // It is the verdict of [`crate::vet`].
+    ensures vets { ReportsVet limits.now bytes.now result report.new }
     ensures reports { ReportsExplanation limits.now bytes.now text.old result required.new text.new
         report.new }
     // The bytes and the capacity allow no other result.
@@ -60,8 +55,41 @@ pub fn explain(
         has_table: !limits.has_no_table(),
     };
     let (answer, count) = over_input(&call, whole, bytes, limits, text, report);
-    *required = count;
+    *required = put_frame_line(answer, count, text);
     answer
+}
+
+// The line for an input that is no message and nothing else, by the answer. None for other answers.
+fn frame_line(answer: Answer) -> &'static [u8]
+    ensures line { result.now ≡ frame_line answer }
+    ensures short { length result.now ≤ 100 }
+{
+    match answer {
+        Answer::NoMessage => b"  reason the input is empty\n",
+        Answer::TooManySegments => {
+            b"  reason the first word of the message says more segments than a message may have\n"
+        }
+        Answer::TooLarge => {
+            b"  reason the segments together have more words than the limit allows\n"
+        }
+        Answer::Truncated => b"  reason the input ends inside the message\n",
+        Answer::Trailing => b"  reason bytes follow the message\n",
+        _ => b"",
+    }
+}
+
+// Puts that line to the start of a buffer, if there is one and it fits. Gives its length then, and the
+// length of the lines that were put there before otherwise.
+fn put_frame_line(answer: Answer, count: usize, text: &mut [u8]) -> usize
+    ensures puts { ((frame_line answer ≡ []) × (result ≡ count) × (text.new ≡ text.old))
+        ⊎ ((frame_line answer ≢ []) × PutsText (frame_line answer) text.old result text.new) }
+    ensures few { count ≤ 6144 → result ≤ 6144 }
+{
+    let line = frame_line(answer);
+    if line.is_empty() {
+        return count;
+    }
+    put_text(line, text)
 }
 
 // The call on a message, which has a segment table or not.
@@ -86,7 +114,23 @@ impl Call for Explaining {
         out: &mut [u8],
     ) -> Found {
         match vet_with(view, limits, demands) {
-            Ok(_) => path_answer(Answer::NoNode),
+            Ok(vetted) => Found::accepted(Answer::Good, 0, vetted.report()),
+            Err(refusal) => explained(view, refusal, limits, demands, self.has_table, out),
+        }
+    }
+
+    // A walk of its own, as that of [`crate::vet`], for a message that is accepted.
+    #[inline(always)]
+    fn on_one<'b>(
+        &self,
+        view: &ByteView<'b>,
+        _words: u64,
+        limits: Limits,
+        demands: Demands,
+        out: &mut [u8],
+    ) -> Found {
+        match vet_with(&OneSlice::of(view), limits, demands) {
+            Ok(vetted) => Found::accepted(Answer::Good, 0, vetted.report()),
             Err(refusal) => explained(view, refusal, limits, demands, self.has_table, out),
         }
     }
@@ -104,20 +148,19 @@ fn explained<'b>(
 ) -> Found
     ensures lines { let m = ⟦<ByteView<'b> as Segments>⟧.segments view.now in
         (h : IsDemandFault demands m (words_of limits) (depth_of limits) refusal) →
-        ReportsText (fault_lines has_table demands m (words_of limits) (depth_of limits) refusal h)
-        out.old result.answer result.count out.new }
+        PutsText (fault_lines has_table demands m (words_of limits) (depth_of limits) refusal h)
+        out.old result.count out.new }
     ensures few { result.count ≤ 6144 }
-    ensures report { result.report ≡ refused_report refusal }
+    ensures refused { result ≡ record (refused_found refusal) { count = result.count } }
 {
     let mut path = NamedPath::new();
     path.find_refused(view, limits, &refusal);
     let within = limits_under(view, limits, demands);
     let numbers = numbers_of(view, &refusal, within, has_table);
-    let (answer, count) = put_lines(view, &refusal, numbers, &path, out);
+    let count = put_lines(view, &refusal, numbers, &path, out);
     Found {
-        answer,
         count,
-        report: CallReport::of_refused(refusal),
+        ..Found::refused(refusal)
     }
 }
 
@@ -154,25 +197,25 @@ fn put_lines<'b>(
     numbers: Numbers,
     path: &NamedPath,
     out: &mut [u8],
-) -> (Answer, usize)
-    ensures reports { let m = ⟦<ByteView<'b> as Segments>⟧.segments view.now in
-        ReportsText (explanation path.now m refusal.now numbers) out.old result.0 result.1 out.new }
-    ensures few { result.1 ≤ 6144 }
+) -> usize
+    ensures puts { let m = ⟦<ByteView<'b> as Segments>⟧.segments view.now in
+        PutsText (explanation path.now m refusal.now numbers) out.old result out.new }
+    ensures few { result ≤ 6144 }
 {
     let mut lines = Explanation::new();
     explain_refusal(&mut lines, view, refusal, numbers, path.steps());
     put_text(lines.text(), out)
 }
 
-// Puts a text to the start of a buffer, if it fits. Gives its length too.
-fn put_text(text: &[u8], out: &mut [u8]) -> (Answer, usize)
-    ensures reports { ReportsText text.now out.old result.0 result.1 out.new }
-    ensures count { result.1 ≡ length text.now }
+// Puts a text to the start of a buffer, if it fits. Gives its length.
+fn put_text(text: &[u8], out: &mut [u8]) -> usize
+    ensures puts { PutsText text.now out.old result out.new }
+    ensures count { result ≡ length text.now }
 {
     let count = text.len();
     if count > out.len() {
-        return (Answer::BufferTooSmall, count);
+        return count;
     }
     out[..count].copy_from_slice(text);
-    (Answer::Good, count)
+    count
 }

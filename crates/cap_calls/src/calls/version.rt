@@ -5,7 +5,7 @@ ghost use Rattle.std.specs.Prelude.{◌≡◌};
 /// The version of the calls: 65536 times its major number, 256 times its minor number, and the
 /// number of its patch.
 pub fn version() -> u32
-    ensures { result ≡ 65792 }
+    ensures { result ≡ 131072 }
 {
-    65792
+    131072
 }

@@ -3,6 +3,9 @@ use Rattle.std.proofs.Common.{ap, ◌∙◌}
 use Rattle.cap_calls.specs.AnswerNumbers.{answer_number}
 use Rattle.capvet_c.proofs.capvet_explain.Goals as goal
 
+pub returns-clause-vets : goal.returns-clause-vets
+returns-clause-vets c = (c.explain.result, c.explain.ensures.vets, c.number.ensures)
+
 pub returns-clause-reports : goal.returns-clause-reports
 returns-clause-reports c = (c.explain.result, c.explain.ensures.reports, c.number.ensures)
 

@@ -12,34 +12,41 @@ use Rattle.cap_calls.proofs.AllFlags.{trailing_allowed, whole_as, whole_less, wh
 use Rattle.cap_calls.proofs.laws.all_flags_demand_nothing.Goals as goal
 
 pub returns-clause-vet : goal.returns-clause-vet
-returns-clause-vet c = λ l bs a r e.
-    let off = table_given l e in (
-      λ (f, t, h). (f, whole_less l bs f _ (trailing_allowed l e) (λ m g j. all_less l e m g j) (framed_input _ l bs f off t), h),
-      λ (f, t, h). (f, of_frame off (whole_more l bs f _ (trailing_allowed l e) (λ m g j. all_more l e m g j) t), h),
+returns-clause-vet c = λ l bs a r e i.
+    let off = table_given l i in (
+      λ (f, t, h). (f, whole_less l bs f _ (trailing_allowed l i) (λ m g j. all_less l e m g j) (framed_input _ l bs f off t), h),
+      λ (f, t, h). (f, of_frame off (whole_more l bs f _ (trailing_allowed l i) (λ m g j. all_more l e m g j) t), h),
     )
 
 pub returns-clause-exclusive : goal.returns-clause-exclusive
-returns-clause-exclusive c = λ l bs size a n r e.
-    let off = table_given l e in (
+returns-clause-exclusive c = λ l bs size a n r e i.
+    let off = table_given l i in (
       λ (f, t, h, k). (
         f,
-        whole_less l bs f _ (trailing_allowed l e) (λ m g j. all_marks_less l e size m g j) (framed_input _ l bs f off t),
+        whole_less l bs f _ (trailing_allowed l i) (λ m g j. all_marks_less l e size m g j) (framed_input _ l bs f off t),
         h,
         k,
       ),
-      λ (f, t, h, k). (f, of_frame off (whole_more l bs f _ (trailing_allowed l e) (λ m g j. all_marks_more l e size m g j) t), h, k),
+      λ (f, t, h, k). (f, of_frame off (whole_more l bs f _ (trailing_allowed l i) (λ m g j. all_marks_more l e size m g j) t), h, k),
     )
 
 pub returns-clause-canonical : goal.returns-clause-canonical
-returns-clause-canonical c = λ l bs old a n new r e.
-    let off = table_given l e in (
-      λ (f, t, h, k). (f, whole_less l bs f _ (trailing_allowed l e) (λ m g j. all_less l e m g j) (framed_input _ l bs f off t), h, k),
-      λ (f, t, h, k). (f, of_frame off (whole_more l bs f _ (trailing_allowed l e) (λ m g j. all_more l e m g j) t), h, k),
+returns-clause-canonical c = λ l bs old a n new r e i.
+    let off = table_given l i in (
+      λ (f, t, h, k). (f, whole_less l bs f _ (trailing_allowed l i) (λ m g j. all_less l e m g j) (framed_input _ l bs f off t), h, k),
+      λ (f, t, h, k). (f, of_frame off (whole_more l bs f _ (trailing_allowed l i) (λ m g j. all_more l e m g j) t), h, k),
     )
 
-pub returns-clause-is_canonical : goal.returns-clause-is_canonical
-returns-clause-is_canonical c = λ l bs a r e.
-    let off = table_given l e in (
+pub returns-clause-check_canonical : goal.returns-clause-check_canonical
+returns-clause-check_canonical c = λ l bs a r e i.
+    let off = table_given l i in (
+      λ (f, t, h). (f, whole_as l bs f true (λ m g j. all_less l e m g j) (framed_input true l bs f off t), h),
+      λ (f, t, h). (f, of_frame off (whole_as l bs f true (λ m g j. all_more l e m g j) t), h),
+    )
+
+pub returns-clause-first_difference : goal.returns-clause-first_difference
+returns-clause-first_difference c = λ l bs a r e i.
+    let off = table_given l i in (
       λ (f, t, h). (f, whole_as l bs f true (λ m g j. all_less l e m g j) (framed_input true l bs f off t), h),
       λ (f, t, h). (f, of_frame off (whole_as l bs f true (λ m g j. all_more l e m g j) t), h),
     )

@@ -33,7 +33,7 @@ returns-then-more-gt0 g c =
     trailing m (frame_bytes f) (length m) reported.0
     (record { are_limits = c.in-Ok.ensures.limits.0; front = c.in-Ok.ensures.front; count = refl })
     (omega (arith, c.if-more-gt0.true, reported.1))
-    (c.framed.ensures ∙ ap (framed_found (frame_bytes f) (length m)) (c.trailing.ensures ∙ ap trailing_found reported.1))
+    (c.framed.ensures ∙ ap (framed_found c.args.limits.now (frame_bytes f) m) (c.trailing.ensures ∙ ap trailing_found reported.1))
     refl
 
 pub returns-else-more-gt0 : goal.returns-else-more-gt0

@@ -3,7 +3,7 @@ use Rattle.cap_frame.specs.Bytes.{cut}
 use Rattle.cap_vet.specs.Limits.{depth_of, words_of}
 use Rattle.cap_explain.specs.Explaining.{explanation}
 use Rattle.cap_trace.specs.NamedPaths.{fault_path}
-use Rattle.cap_calls.specs.PackCalls.{ReportsText}
+use Rattle.cap_calls.specs.ExplainCalls.{PutsText}
 use Rattle.cap_calls.proofs.Explained.{same_numbers}
 use Rattle.cap_calls.proofs.calls.explain.explained.Goals as goal
 
@@ -21,5 +21,5 @@ returns-clause-lines c = λ h.
     made.ensures.words made.ensures.depth made.ensures.charge made.ensures.table made.ensures.start in
     let lines = ap (λ path. explanation path m refusal made.result) (c.find_refused.ensures demands words h)
     ∙ ap (λ k. explanation (fault_path demands m words depth refusal h) m refusal k) numbers in
-    subst (λ (text : List ℕ). ReportsText text c.args.out.now c.put_lines-answer.result.0 c.put_lines-answer.result.1 c.put_lines-answer.new.out)
-    lines c.put_lines-answer.ensures.reports
+    subst (λ (text : List ℕ). PutsText text c.args.out.now c.put_lines-count.result c.put_lines-count.new.out)
+    lines c.put_lines-count.ensures.puts

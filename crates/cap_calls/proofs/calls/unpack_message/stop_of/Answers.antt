@@ -1,5 +1,6 @@
 -- The stop at each stage.
-use Rattle.std.proofs.Common.{ap, ap₂, length, refl, subst, sym, ℕ, ◌∙◌}
+use Rattle.std.proofs.Common.{ap, ap₂, length, refl, subst, sum, sym, ℕ, ◌∙◌}
+use Rattle.cap_spec.specs.Frames.{sizes_of}
 use Rattle.cap_frame.specs.Fronts.{IsFront}
 use Rattle.cap_calls.specs.CallNames.{IsEnd, too_many, Stage, CallReport}
 use Rattle.cap_calls.specs.UnpackingMessages.{too_large, whole}
@@ -16,8 +17,9 @@ returns-in-Whole-clause-stops c = λ limit size held e.
     let m = t.is_stage.0 in
     rw c.whole_stop.ensures
     (whole m (subst (λ (k : ℕ). IsFront limit held m k) (t.exact m t.is_stage.1 t.is_stage.2) t.is_stage.2) refl (sym t.long) refl
-    (ap₂ (λ (n k : ℕ). record c.none.result { length = n; segments = k }) (sym t.long) t.is_stage.3
-    ∙ ap (λ (x : CallReport). record x { length = length held; segments = length m }) c.none.ensures))
+    (ap₂ (λ (n k : ℕ). record c.none.result { length = n; segments = k; words = c.in-Whole.words }) (sym t.long) t.is_stage.3
+    ∙ (ap (λ (k : ℕ). record c.none.result { length = length held; segments = length m; words = k }) t.is_stage.4
+    ∙ ap (λ (x : CallReport). record x { length = length held; segments = length m; words = sum (sizes_of m) }) c.none.ensures)))
 
 pub returns-in-TooMany-clause-stops : goal.returns-in-TooMany-clause-stops
 returns-in-TooMany-clause-stops c = λ limit size held e.

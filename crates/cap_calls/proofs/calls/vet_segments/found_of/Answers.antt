@@ -1,9 +1,9 @@
 -- What is found of the message.
-use Rattle.cap_spec.proofs.ProofNames.{List, ap, ap₂, length, refl, subst, sum, ℕ, ◌*◌, ◌∙◌, ◌≡◌, length-map, ⊤, sizes_of}
-use Rattle.cap_spec.proofs.ProofNames.{plain_words}
+use Rattle.cap_spec.proofs.ProofNames.{List, ap, ap₂, length, refl, subst, sum, ℕ, ◌*◌, ◌∙◌, ◌≡◌, ⊤, sizes_of}
 use Rattle.cap_vet.specs.Limits.{depth_of, words_of}
-use Rattle.cap_calls.specs.CallNames.{Demands, Judges, framed_found, IsGood, message, AreSegments, ReportsNoSegments}
+use Rattle.cap_calls.specs.CallNames.{Demands, Judges, IsGood, message, AreSegments, ReportsNoSegments}
 use Rattle.cap_calls.specs.CallNames.{segments_in, words_in}
+use Rattle.cap_calls.specs.CallFindings.{extent_found}
 use Rattle.cap_calls.specs.SegmentsCalls.{no_message}
 use Rattle.cap_calls.specs.Slices.{bytes_of}
 use Rattle.cap_calls.proofs.calls.vet_segments.found_of.Goals as goal
@@ -22,11 +22,13 @@ returns-in-Ok c =
     let asked = subst (λ (d : Demands). Judges d ⊤ IsGood (segments_in parts) l.charge l.depth g) c.demands.ensures deep in
     let words : c.words-words.result ≡ words_in parts =
     c.words-words.ensures ∙ ap (λ (m : List (List ℕ)). sum (sizes_of m)) c.in-Ok.ensures.segments in
-    let many : c.count.result ≡ length parts =
-    c.count.ensures ∙ (ap (λ (m : List (List ℕ)). length m) c.in-Ok.ensures.segments ∙ length-map parts plain_words) in
+    let many : c.count.result ≡ length (segments_in parts) =
+    c.count.ensures ∙ ap (λ (m : List (List ℕ)). length m) c.in-Ok.ensures.segments in
+    let limit = c.charge_limit-limit.ensures (segments_in parts) words in
     message (c.in-Some.ensures.some.0 refl) (subst (λ (n : ℕ). AreSegments n parts) c.in-Some.ensures.size c.in-Ok.ensures.whole) g
     asked
-    (c.extent.ensures ∙ ap₂ (λ (x y : ℕ). framed_found (8 * x) y g) words many)
+    (c.extent.ensures ∙ (ap₂ (λ (x y : ℕ). extent_found (8 * x) y x c.charge_limit-limit.result g) words many
+    ∙ ap (λ (k : ℕ). extent_found (8 * words_in parts) (length (segments_in parts)) (words_in parts) k g) limit))
 
 pub returns-in-Err : goal.returns-in-Err
 returns-in-Err c =

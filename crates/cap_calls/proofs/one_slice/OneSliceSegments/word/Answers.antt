@@ -1,23 +1,19 @@
 -- The word is in its eight bytes of the slice.
 use Rattle.cap_spec.proofs.Bytes.Plain.{words_exact}
-use Rattle.cap_spec.proofs.ProofNames.{List, Some, ap, arith, length, length-drop, rules, slice_get, sym, ℕ, ◌*◌, ◌+◌, ◌<◌}
-use Rattle.cap_spec.proofs.ProofNames.{◌∙◌, ◌≤◌, take_rest, little_number, plain_words}
-use Rattle.cap_frame.proofs.Cuts.{word_at}
+use Rattle.cap_spec.proofs.ProofNames.{List, Some, ap, arith, length, slice_get, sym, ℕ, ◌*◌, ◌<◌, ◌∙◌}
+use Rattle.cap_spec.proofs.ProofNames.{plain_words}
+use Rattle.cap_frame.proofs.Cuts.{eight_in, number_in, word_at}
 use Rattle.cap_calls.proofs.OneSegments.{slice_size, slice_words}
 use Rattle.cap_calls.proofs.one_slice.OneSliceSegments.word.Goals as goal
 
-pub slice_bounds-read_u64-count : goal.slice_bounds-read_u64-count
-slice_bounds-read_u64-count c =
+pub slice_bounds-read_u64-end : goal.slice_bounds-read_u64-end
+slice_bounds-read_u64-end c =
     omega (arith, c.requires.inside, slice_size c.args.self.now.bytes.now c.args._s c.requires.exists)
-
-pub slice_bounds-read_u64-start : goal.slice_bounds-read_u64-start
-slice_bounds-read_u64-start c = let t = slice_bounds-read_u64-count c in search rules
 
 pub read_u64-requires : goal.read_u64-requires
 read_u64-requires c =
     let bs = c.args.self.now.bytes.now in
-    let inside : 8 * c.args.w + 8 ≤ length bs = omega (arith, c.requires.inside, slice_size bs c.args._s c.requires.exists) in
-    rw (take_rest bs (8 * c.args.w)) (omega (arith, length-drop (8 * c.args.w) bs, inside))
+    eight_in bs (8 * c.args.w) (omega (arith, c.requires.inside, slice_size bs c.args._s c.requires.exists))
 
 pub returns : goal.returns
 returns c =
@@ -26,4 +22,4 @@ returns c =
     omega (arith, c.requires.inside, slice_size bs c.args._s c.requires.exists, words_exact bs) in
     ap (λ (ws : List ℕ). slice_get ws c.args.w) (slice_words bs c.args._s c.requires.exists)
     ∙ (word_at bs c.args.w inside
-    ∙ ap (λ (x : ℕ). Some x) (ap (little_number 8) (sym (take_rest bs (8 * c.args.w))) ∙ sym c.read_u64.ensures))
+    ∙ ap (λ (x : ℕ). Some x) (sym (number_in bs (8 * c.args.w)) ∙ sym c.read_u64.ensures))

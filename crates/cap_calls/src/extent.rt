@@ -1,0 +1,11 @@
+//! Where a segment is in a frame.
+
+/// Where the words of a segment are in a frame, laid out as C has it.
+#[repr(C)]
+#[derive(Clone, Copy, Debug, PartialEq, Eq, Drop)]
+pub struct CallExtent {
+    /// Where they start, in bytes counted from the first byte of the frame.
+    pub offset: u64,
+    /// How many bytes they are.
+    pub length: u64,
+}
