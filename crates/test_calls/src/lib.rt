@@ -1,4 +1,5 @@
-//! Tests of following, of vetting, of what `read` answers and of canonical copies, by public calls alone.
+//! Tests of following, of vetting, of what `read` answers, of canonical copies and of differences from them, by public calls
+//! alone.
 //! The calls from C are tested as they are built, by `tests/calls.py`.
 //!
 //! They are outside of the crates that they test, since the gate proves a crate with tests twice.
@@ -6,6 +7,8 @@
 
 #[cfg(test)]
 mod canons;
+#[cfg(test)]
+mod differences;
 #[cfg(test)]
 mod held;
 #[cfg(test)]

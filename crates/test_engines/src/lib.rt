@@ -13,4 +13,6 @@ mod engines;
 #[cfg(test)]
 mod faults;
 #[cfg(test)]
+mod hashes;
+#[cfg(test)]
 mod same;

@@ -1,13 +1,16 @@
 //! The jobs of `cap_cmd`.
 
 use crate::same::same;
-use cap_cmd::{Job, JobFault, PathFault, Settings, Step, Task, parse_path, read_job, run_job};
+use cap_cmd::{
+    FileMarks, Job, JobFault, Jobs, MarkedLines, PathFault, Settings, Step, Task, file_marks,
+    parse_path, read_job, read_jobs, run_file, run_job,
+};
 use cap_frame::SizeLimit;
 use cap_vet::Limits;
-use cap_words::{SliceIn, VecOut};
+use cap_words::{ByteOut, OutFault, SliceIn, VecOut};
 use std::test::Fail;
 
-// `Under` has what the options and commands beside these ask.
+// `Under` and `One` have what the options and commands beside these ask.
 fn task(task: &Task) -> usize {
     match task {
         Task::Segments => 1,
@@ -23,6 +26,10 @@ fn task(task: &Task) -> usize {
             demands: _demands,
             work: _work,
         } => 9,
+        Task::One {
+            demands: _demands,
+            work: _work,
+        } => 11,
     }
 }
 
@@ -94,5 +101,59 @@ fn jobs_are_run(rt: HostRuntime) -> Result<(), Fail> {
         (status, out.bytes(), err.bytes()),
         (0, [1, 1].as_slice(), [].as_slice()),
     );
+    Ok(())
+}
+
+#[test]
+fn files_have_their_names(rt: HostRuntime) -> Result<(), Fail> {
+    let mut words: Vec<String> = Vec::new(rt.alloc());
+    for word in ["capvet", "hash", "a", "b"] {
+        words.push(String::from_str(rt.alloc(), word)?)?;
+    }
+    let read: Result<Jobs, JobFault> = read_jobs(rt.alloc(), words);
+    let Ok(Jobs { job, more_files }) = read else {
+        return Err(Fail::from("no job"));
+    };
+    same(&rt, more_files.len(), 1);
+    let marks: FileMarks = file_marks(rt.alloc(), &job, "a")?;
+    same(
+        &rt,
+        (marks.out.as_slice(), marks.place, marks.err.as_slice()),
+        (b"a: ".as_slice(), 0, b"a: ".as_slice()),
+    );
+    let input: SliceIn<'_> = SliceIn::new(&[0, 0, 0, 0]);
+    let (out, err) = (VecOut::new(rt.alloc()), VecOut::new(rt.alloc()));
+    let (status, out, err): (u8, VecOut, VecOut) = run_file(
+        rt.alloc(),
+        &job,
+        false,
+        marks,
+        input,
+        out,
+        err,
+    );
+    same(
+        &rt,
+        (status, out.bytes(), err.bytes()),
+        (
+            1,
+            [].as_slice(),
+            b"a: capvet: message 0: Truncated at byte 4\n".as_slice(),
+        ),
+    );
+    Ok(())
+}
+
+#[test]
+fn lines_are_marked(rt: HostRuntime) -> Result<(), Fail> {
+    let mut mark: Vec<u8> = Vec::new(rt.alloc());
+    mark.push(b'-')?;
+    let mut out: MarkedLines<VecOut> = MarkedLines::new(VecOut::new(rt.alloc()), mark, 1);
+    let taken: Result<usize, OutFault> = out.write(b"{");
+    same(&rt, taken, Ok(1));
+    same(&rt, out.write(b"}\n{"), Ok(2));
+    same(&rt, out.flush(), Ok(()));
+    same(&rt, out.is_whole(), true);
+    same(&rt, out.into_inner().bytes(), b"{-}\n".as_slice());
     Ok(())
 }

@@ -2,7 +2,9 @@
 //! kernels.
 
 use crate::same::same;
-use cap_pack::lanes::scalars::{fulls_of_eights, scatter, squeezed, tag_of_word, zeros_of_eights};
+use cap_pack::lanes::scalars::{
+    count_present, fulls_of_eights, scatter, squeezed, tag_of_word, zeros_of_eights,
+};
 use cap_pack::lanes::{gather, tags};
 
 // The two words of the example. Packed they are 51 08 03 02 31 19 aa 01.
@@ -50,6 +52,7 @@ fn kernels_without_vectors_give_the_same(rt: HostRuntime) {
     for i in 0..9 {
         let tag = tag_of_word(WORDS[i]);
         same(&rt, tag, TAGS[i]);
+        same(&rt, count_present(WORDS[i]), TAGS[i].count_ones());
         let present = squeezed(tag, WORDS[i]);
         let mut gathered = [0; 8];
         let _count = gather(WORDS[i], &mut gathered);
