@@ -14,14 +14,15 @@ from collections import Counter
 from pathlib import Path
 
 TOP = Path(sys.argv[1] if len(sys.argv) > 1 else Path(__file__).parents[2]).resolve()
-LIBRARY = "cap_spec cap_words cap_path cap_frame cap_pack cap_ptr cap_vet cap_explain cap_trace cap_canon cap_calls"
+LIBRARY = "cap_spec cap_words cap_path cap_frame cap_pack cap_ptr cap_vet cap_trace cap_canon cap_difference cap_explain cap_calls"
 PROGRAM = "cap_text cap_run cap_commands cap_cmd capvet"
 # Each package: its folder, its crates, its files by hand, and paths that are other ones in the sources.
 PACKAGES = (
     ("rust/core/src", LIBRARY.split(), {"lib.rs", "rattle.rs"},
      (("core", "std"), ("crate :: rattle :: alloc", "std :: alloc"), *((f"crate :: {name}", name) for name in LIBRARY.split()))),
-    ("rust/capvet-cli/src", PROGRAM.split(), {"main.rs", "rattle.rs", "clap.rs"},
-     (("capvet_core :: rattle :: alloc", "std :: alloc"), ("crate :: rattle :: itoa", "itoa"), ("crate :: clap", "clap"),
+    ("rust/capvet-cli/src", PROGRAM.split(), {"main.rs", "clap.rs", "closed.rs", "rattle.rs"},
+     (("capvet_core :: rattle :: alloc", "std :: alloc"), ("crate :: clap", "clap"),
+      *((f"crate :: rattle :: {name}", name) for name in ("hex", "itoa", "sha2")),
       ("core :: str", "str"), *((f"crate :: rattle :: {name}", f"std :: {name}") for name in ("env", "fs", "io", "process")),
       *((f"capvet_core :: {name}", name) for name in LIBRARY.split()), *((f"crate :: {name}", name) for name in PROGRAM.split()))),
 )
@@ -46,7 +47,6 @@ OF_SOURCE = (
     (r"fn main \( rt : HostRuntime \)", "pub ( crate ) fn main ( rt : HostRuntime )"),
     (r"trait FirstTurn : Turn {", "trait FirstTurn : Turn + Sized {"),
     (r"-> Result < (\w+ < ' ?m , M >) , AllocError > { Ok \( \* self \) }", r"-> \1 { * self }"),
-    (r"if let (\w+ \( \w+ \)) = (\w+) && ([^{}]*) { ([^{}]*) } }", r"if let \1 = \2 { if \3 { \4 } } }"),
 )
 # What the written text has more.
 OF_TEXT = (

@@ -23,8 +23,8 @@ from tokens import Refused, Token, tokens_of, without
 
 TOP = Path(__file__).resolve().parent.parent.parent
 HERE = Path(__file__).resolve().parent
-LIBRARY = ("cap_spec", "cap_words", "cap_path", "cap_frame", "cap_pack", "cap_ptr", "cap_vet", "cap_explain", "cap_trace",
-           "cap_canon", "cap_calls")
+LIBRARY = ("cap_spec", "cap_words", "cap_path", "cap_frame", "cap_pack", "cap_ptr", "cap_vet", "cap_trace", "cap_canon",
+           "cap_difference", "cap_explain", "cap_calls")
 
 
 class Package(NamedTuple):
@@ -44,11 +44,12 @@ PACKAGES = (
             {"Vec": "crate::rattle"},
             {name: f"crate::{name}" for name in LIBRARY}),
     Package("rust/capvet-cli", ("cap_text", "cap_run", "cap_commands", "cap_cmd", "capvet"),
-            ("src/main.rs", "src/rattle.rs", "src/clap.rs"),
+            ("src/main.rs", "src/clap.rs", "src/closed.rs", "src/rattle.rs"),
             {"alloc": "capvet_core::rattle::alloc", "{": "crate::rattle::{",
              **{name: f"crate::rattle::{name}" for name in ("env", "fs", "io", "process")}},
             {"Vec": "capvet_core::rattle", **{name: "crate::rattle" for name in ("String", "HostRuntime", "format", "eprintln")}},
-            {"clap": "crate::clap", "itoa": "crate::rattle::itoa", **{name: f"capvet_core::{name}" for name in LIBRARY},
+            {"clap": "crate::clap", **{name: f"crate::rattle::{name}" for name in ("hex", "itoa", "sha2")},
+             **{name: f"capvet_core::{name}" for name in LIBRARY},
              **{name: f"crate::{name}" for name in ("cap_text", "cap_run", "cap_commands", "cap_cmd")}}),
 )
 # Kernels over vectors, which stable Rust hasn't. The rules take those of the module `scalars` in their place.

@@ -91,9 +91,6 @@ RULES = (
     Rule("`let .. else`", "Rust has it from 1.65 on",
          "let $*pattern = $*value else { $*else } ;", "let $binding = if let $plain = $*value { $value } else { $*else };",
          lambda found: found["value"][-1].text != "}", bound, nests=True),
-    Rule("chain of `let`, last in its block", "Rust has it from 1.88 on",
-         "if let $*pattern = $*value && $*other { $*then } }", "if let $*pattern = $*value { if $*other { $*then } } }",
-         lambda found: "{" not in texts(found["value"]), nests=True),
     Rule("`str::from_utf8`", "Rust has it there from 1.87 on", "str :: from_utf8 ( $*bytes )", "core::str::from_utf8($*bytes)"),
 )
 
