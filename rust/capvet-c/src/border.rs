@@ -20,7 +20,8 @@ pub(crate) const NO_REPORT: CallReport = CallReport {
     segments: 0,
     segment: 0,
     word: 0,
-    reserved: [0; 4],
+    words: 0,
+    reserved: [0; 6],
 };
 
 /// A node with nothing in it.

@@ -20,7 +20,8 @@ mod border;
 use arrayvec::ArrayVec;
 use border::{input, output, NO_NODE, NO_REPORT};
 use capvet_core::cap_calls::{
-    self as calls, Answer, CallLimits, CallNode, CallReport, CallStep, Unpacking,
+    self as calls, Answer, CallExtent, CallLimits, CallNode, CallReport, CallStep, OverlapPointer,
+    Unpacking,
 };
 use core::mem::MaybeUninit;
 use core::panic::PanicInfo;
@@ -55,7 +56,7 @@ pub extern "C" fn capvet_version() -> u32 {
 }
 
 #[no_mangle]
-pub extern "C" fn capvet_abi_1() {}
+pub extern "C" fn capvet_abi_2() {}
 
 #[no_mangle]
 pub extern "C" fn capvet_frame_bound(message_words: u64) -> usize {
@@ -78,6 +79,16 @@ pub extern "C" fn capvet_pack_bound(length: usize) -> usize {
 }
 
 #[no_mangle]
+pub extern "C" fn capvet_reader_words(report: &CallReport, readings: u32) -> u64 {
+    calls::reader_words(report, readings)
+}
+
+#[no_mangle]
+pub extern "C" fn capvet_reader_nesting(report: &CallReport) -> u32 {
+    calls::reader_nesting(report)
+}
+
+#[no_mangle]
 pub extern "C" fn capvet_limits_default(limits: &mut MaybeUninit<CallLimits>) {
     limits.write(CallLimits::default_limits());
 }
@@ -95,16 +106,25 @@ pub unsafe extern "C" fn capvet_frame(
 }
 
 #[no_mangle]
-pub unsafe extern "C" fn capvet_segment_at(
+pub unsafe extern "C" fn capvet_segments(
     bytes: *const u8,
     length: usize,
-    index: u32,
-    offset: &mut MaybeUninit<usize>,
-    segment_length: &mut MaybeUninit<usize>,
+    limits: &CallLimits,
+    extents: *mut CallExtent,
+    count: usize,
+    required: &mut MaybeUninit<usize>,
+    report: &mut MaybeUninit<CallReport>,
 ) -> u32 {
-    // SAFETY: the header asks for `length` bytes at `bytes`, which nobody writes.
-    let bytes = unsafe { input(bytes, length) };
-    calls::segment_at(bytes, index, offset.write(0), segment_length.write(0)).number()
+    // SAFETY: the header asks for both buffers, and that `extents` overlaps no other argument.
+    let (bytes, extents) = unsafe { (input(bytes, length), output(extents, count)) };
+    calls::segments(
+        bytes,
+        limits,
+        extents,
+        required.write(0),
+        report.write(NO_REPORT),
+    )
+    .number()
 }
 
 #[no_mangle]
@@ -187,7 +207,7 @@ pub unsafe extern "C" fn capvet_canonical(
 }
 
 #[no_mangle]
-pub unsafe extern "C" fn capvet_is_canonical(
+pub unsafe extern "C" fn capvet_check_canonical(
     bytes: *const u8,
     length: usize,
     limits: &CallLimits,
@@ -195,7 +215,31 @@ pub unsafe extern "C" fn capvet_is_canonical(
 ) -> u32 {
     // SAFETY: the header asks for `length` bytes at `bytes`, which nobody writes.
     let bytes = unsafe { input(bytes, length) };
-    calls::is_canonical(bytes, limits, report.write(NO_REPORT)).number()
+    calls::check_canonical(bytes, limits, report.write(NO_REPORT)).number()
+}
+
+#[no_mangle]
+pub unsafe extern "C" fn capvet_check_canonical_words(
+    words: *const u8,
+    length: usize,
+    limits: &CallLimits,
+    report: &mut MaybeUninit<CallReport>,
+) -> u32 {
+    // SAFETY: the header asks for `length` bytes at `words`, which nobody writes.
+    let words = unsafe { input(words, length) };
+    calls::check_canonical_words(words, limits, report.write(NO_REPORT)).number()
+}
+
+#[no_mangle]
+pub unsafe extern "C" fn capvet_first_difference(
+    bytes: *const u8,
+    length: usize,
+    limits: &CallLimits,
+    report: &mut MaybeUninit<CallReport>,
+) -> u32 {
+    // SAFETY: the header asks for `length` bytes at `bytes`, which nobody writes.
+    let bytes = unsafe { input(bytes, length) };
+    calls::first_difference(bytes, limits, report.write(NO_REPORT)).number()
 }
 
 #[no_mangle]
@@ -313,7 +357,38 @@ pub unsafe extern "C" fn capvet_explain(
 }
 
 #[no_mangle]
-pub unsafe extern "C" fn capvet_pack(
+pub unsafe extern "C" fn capvet_explain_overlap(
+    bytes: *const u8,
+    length: usize,
+    limits: &CallLimits,
+    segment: u32,
+    word: u32,
+    number: u64,
+    text: *mut u8,
+    text_size: usize,
+    required: &mut MaybeUninit<usize>,
+    report: &mut MaybeUninit<CallReport>,
+) -> u32 {
+    // SAFETY: the header asks for both buffers, and that `text` overlaps no other argument. Its `char` is a byte.
+    let (bytes, text) = unsafe { (input(bytes, length), output(text, text_size)) };
+    let pointer = OverlapPointer {
+        segment,
+        word,
+        number,
+    };
+    calls::explain_overlap(
+        bytes,
+        limits,
+        pointer,
+        text,
+        required.write(0),
+        report.write(NO_REPORT),
+    )
+    .number()
+}
+
+#[no_mangle]
+pub unsafe extern "C" fn capvet_pack_words(
     bytes: *const u8,
     length: usize,
     out: *mut u8,
@@ -326,7 +401,7 @@ pub unsafe extern "C" fn capvet_pack(
 }
 
 #[no_mangle]
-pub unsafe extern "C" fn capvet_unpack(
+pub unsafe extern "C" fn capvet_unpack_words(
     bytes: *const u8,
     length: usize,
     out: *mut u8,

@@ -4,14 +4,19 @@
 
 mod asking;
 mod command_line;
+mod files;
 mod jobs;
+mod marked;
 mod running;
+mod sizes;
 
 pub use crate::cap_run::{
     dump, parse_path, run_canon, run_check, run_dump, run_get, run_pack, run_segments, run_unpack,
     run_vet, run_vet_exclusive, Cause, CopyFault, Demands, FilterForm, Outcome, PathFault,
     RunFault, Settings, Step,
 };
-pub use command_line::read_job;
-pub use jobs::{Job, JobFault, Task, Work};
+pub use command_line::{read_job, read_jobs};
+pub use files::{file_marks, run_file, FileMarks};
+pub use jobs::{Job, JobFault, Jobs, JsonReport, Task, Work};
+pub use marked::MarkedLines;
 pub use running::{run_job, run_job_with};

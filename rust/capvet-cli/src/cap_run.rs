@@ -10,8 +10,8 @@ mod settings;
 mod waiting;
 
 pub use crate::cap_text::{
-    dump, write_copy_fault, write_explained_fault, write_fault, Cause, CopyFault, ExplainedFault,
-    RunFault,
+    dump, write_copy_fault, write_explained_fault, write_fault, write_guessed_fault,
+    write_single_fault, Cause, CopyFault, ExplainedFault, RunFault, SingleFault,
 };
 pub use capvet_core::cap_path::{parse_path, PathFault};
 pub use capvet_core::cap_spec::Step;
@@ -21,9 +21,13 @@ pub use engines::check::{run_check, run_check_with};
 pub use engines::dump::{run_dump, run_dump_with};
 pub use engines::exclusive::{run_vet_exclusive, run_vet_exclusive_with};
 pub use engines::explain::{run_explain, run_explain_exclusive};
+pub use engines::explained::{run_explain_exclusive_json, run_explain_json};
 pub use engines::filter::run_filter;
 pub use engines::get::{run_get, run_get_with};
+pub use engines::hash::{run_digest_with, run_hash, run_hash_with};
+pub use engines::json::{run_check_json, run_hash_json, run_vet_exclusive_json, run_vet_json};
 pub use engines::segments::{run_segments, run_segments_with};
+pub use engines::single::{end_single, read_single};
 pub use engines::transcode::{run_pack, run_pack_with, run_unpack, run_unpack_with};
 pub use engines::vet::{run_vet, run_vet_with};
 pub use settings::{ExplainSettings, FilterForm, Outcome, Settings};

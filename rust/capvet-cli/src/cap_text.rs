@@ -6,9 +6,14 @@
 //! of a run are here, since each has a line.
 
 mod breaks;
+mod difference;
+mod explained;
 mod fault;
 mod faults;
 mod get;
+mod guess;
+mod hash;
+mod json;
 mod node;
 mod page;
 mod segments;
@@ -16,9 +21,19 @@ mod tree;
 mod verdict;
 
 pub use breaks::write_explained_fault;
-pub use fault::{Cause, CopyFault, ExplainedFault, RunFault, StreamBreak};
-pub use faults::{write_copy_fault, write_fault};
+pub use difference::{
+    write_canonical_json, write_difference, write_filtered_end, write_object_end,
+};
+pub use explained::{write_explained_json, write_explained_overlap_json, write_filtered_json};
+pub use fault::{Cause, CopyFault, ExplainedFault, RunFault, SingleFault, StreamBreak};
+pub use faults::{write_copy_fault, write_fault, write_single_fault};
 pub use get::write_node;
+pub use guess::write_guessed_fault;
+pub use hash::{write_digest, write_hash, write_no_form};
+pub use json::{
+    write_accepted_json, write_check_json, write_hash_json, write_no_form_json, write_overlap_json,
+    write_refused_json,
+};
 pub use page::Page;
 pub use segments::write_segments;
 pub use tree::{dump, write_tree};

@@ -4,7 +4,9 @@
 use crate::rattle::{eprintln, HostRuntime};
 use capvet_core::rattle::Vec;
 
-use crate::cap_cmd::{read_job, run_job_with, Job, JobFault, Task, Work};
+use crate::cap_cmd::{
+    file_marks, read_jobs, run_file, run_job_with, Job, JobFault, Jobs, Task, Work,
+};
 use crate::rattle::env::Env;
 use crate::rattle::fs::{File, Metadata, OpenFile};
 use crate::rattle::io::{BufWriter, ErrorKind, Read, Stdin, Write};
@@ -45,8 +47,8 @@ fn run(rt: &HostRuntime) -> u8 {
         Ok(words) => words,
         Err(_) => return out_of_memory(rt),
     };
-    match read_job(rt.alloc(), words) {
-        Ok(job) => open_and_run(rt, job),
+    match read_jobs(rt.alloc(), words) {
+        Ok(jobs) => open_and_run(rt, &jobs),
         Err(JobFault::Help { text }) => help(rt, text.as_str()),
         Err(JobFault::Usage { text }) => fail(rt, text.as_str(), USAGE),
         Err(JobFault::Path { at }) => bad_path(rt, at),
@@ -84,21 +86,113 @@ impl Read for Input {
     }
 }
 
-// Opens the job's file, or takes standard input, and runs the job on it.
-fn open_and_run(rt: &HostRuntime, job: Job) -> u8 {
+// Opens the job's files, or takes standard input, and runs the job on them.
+fn open_and_run(rt: &HostRuntime, jobs: &Jobs) -> u8 {
+    if !jobs.more_files.is_empty() {
+        return run_each(rt, jobs);
+    }
+    let job = &jobs.job;
     match &job.file {
         None => {
             let live = may_wait(&fs::metadata(rt, STANDARD_INPUT));
-            run_on(rt, &job, live, Device::Standard(rt.stdin()))
+            run_on(rt, job, live, Device::Standard(rt.stdin()))
         }
         Some(name) => match File::open(rt, name.as_str()) {
             Ok(file) => {
                 let live = may_wait(&file.metadata());
-                run_on(rt, &job, live, Device::File(file))
+                run_on(rt, job, live, Device::File(file))
             }
             Err(error) => cannot_open(rt, &job.task, name.as_str(), &error),
         },
     }
+}
+
+// Runs the job on each of several files, one after the other, and returns the greatest status. It
+// ends where the output failed.
+fn run_each(rt: &HostRuntime, jobs: &Jobs) -> u8 {
+    let mut greatest = 0;
+    if let Some(name) = &jobs.job.file {
+        let (status, goes_on) = run_named(rt, &jobs.job, name.as_str());
+        if !goes_on {
+            return status;
+        }
+        greatest = status;
+    }
+    for name in &jobs.more_files {
+        let (status, goes_on) = run_named(rt, &jobs.job, name.as_str());
+        if !goes_on {
+            return status;
+        }
+        greatest = greatest.max(status);
+    }
+    greatest
+}
+
+// Runs the job on one of several files, with its name in each line. Also says whether the output
+// takes more.
+fn run_named(rt: &HostRuntime, job: &Job, name: &str) -> (u8, bool) {
+    let file = match File::open(rt, name) {
+        Ok(file) => file,
+        Err(error) => {
+            let _ = eprintln!(rt; "{name}: capvet: cannot open {name}");
+            explain_named(rt, job, name, &error);
+            return (FAILED, true);
+        }
+    };
+    let live = may_wait(&file.metadata());
+    let mut input = Input {
+        device: Device::File(file),
+        error: None,
+    };
+    let (status, goes_on) =
+        if let Ok((status, goes_on)) = run_over_named(rt, job, live, name, &mut input) {
+            (status, goes_on)
+        } else {
+            return (fail_named(rt, name, "out of memory"), true);
+        };
+    if let Some(error) = &input.error {
+        explain_named(rt, job, name, error);
+    }
+    (status, goes_on)
+}
+
+// The same, without what the system says of a read that failed.
+fn run_over_named(
+    rt: &HostRuntime,
+    job: &Job,
+    live: bool,
+    name: &str,
+    input: &mut Input,
+) -> Result<(u8, bool), AllocError> {
+    let marks = file_marks(rt.alloc(), job, name)?;
+    let input = BufferedIn::new(rt.alloc(), input)?;
+    let out = if let Ok(out) = BufWriter::with_capacity(rt.alloc(), BUFFER, rt.stdout()) {
+        out
+    } else {
+        return Err(AllocError);
+    };
+    let err = if let Ok(err) = BufWriter::with_capacity(rt.alloc(), LINE, rt.stderr()) {
+        err
+    } else {
+        return Err(AllocError);
+    };
+    let (out, err) = (FromWrite::new(out), FromWrite::new(err));
+    let (status, out, err) = run_file(rt.alloc(), job, live, marks, input, out, err);
+    let has_failed = out.has_failed();
+    // An output that failed has its line already.
+    let is_reported = has_failed || out.into_inner().flush().is_ok();
+    let _ = err.into_inner().flush();
+    if is_reported {
+        Ok((status, !has_failed))
+    } else {
+        Ok((fail_named(rt, name, "output failed"), false))
+    }
+}
+
+// Writes a line about one of several files, and returns the status.
+fn fail_named(rt: &HostRuntime, name: &str, text: &str) -> u8 {
+    let _ = eprintln!(rt; "{name}: capvet: {text}");
+    FAILED
 }
 
 // Whether an input may have to be waited for: all but a regular file.
@@ -171,13 +265,30 @@ fn cannot_open(rt: &HostRuntime, task: &Task, name: &str, error: &io::Error) -> 
 // Writes the system's reason as a second line, if the task has one. The others write one line for a
 // fault.
 fn explain(rt: &HostRuntime, task: &Task, error: &io::Error) {
-    if let Task::Under {
-        work: Work::Explain { .. } | Work::Filter { .. },
-        ..
-    } = task
-    {
+    if gives_reasons(task) {
         let _ = eprintln!(rt; "capvet: {error}");
     }
+}
+
+// The same for one of several files.
+fn explain_named(rt: &HostRuntime, job: &Job, name: &str, error: &io::Error) {
+    if gives_reasons(&job.task) {
+        let _ = eprintln!(rt; "{name}: capvet: {error}");
+    }
+}
+
+// Whether a task has a line for the system's reason.
+fn gives_reasons(task: &Task) -> bool {
+    matches!(
+        task,
+        Task::Under {
+            work: Work::Explain { .. } | Work::Filter { .. },
+            ..
+        } | Task::One {
+            work: Work::Explain { .. } | Work::Filter { .. },
+            ..
+        }
+    )
 }
 
 // Names the first argument that is not UTF-8 by its number, from 1.
@@ -187,7 +298,9 @@ fn bad_argument(rt: &HostRuntime) -> u8 {
     } else {
         return out_of_memory(rt);
     };
-    let _ = eprintln!(rt; "capvet: argument {number} is not UTF-8");
+    let _ = eprintln!(rt;
+        "capvet: argument {number} is not UTF-8; to read a file of such a name, use < FILE"
+    );
     USAGE
 }
 

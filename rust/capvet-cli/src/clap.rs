@@ -110,6 +110,9 @@ impl<'a> Arg<'a> {
     }
 }
 
+// What `--version` says of this build.
+const BUILD: &str = "plain Rust: tested, not proved";
+
 pub struct Command<'a> {
     command: ::clap::Command,
     texts: PhantomData<&'a str>,
@@ -134,8 +137,10 @@ impl<'a> Command<'a> {
         self.with(|command| command.about(text.to_owned()))
     }
 
+    /// `-V` prints the line of the proved program. `--version` has a second one, so that nobody takes this build for that.
     pub fn version(self, text: &'a str) -> Self {
-        self.with(|command| command.version(text.to_owned()))
+        let long = format!("{text}\n{BUILD}");
+        self.with(|command| command.version(text.to_owned()).long_version(long))
     }
 
     pub fn after_help(self, text: &'a str) -> Self {
@@ -193,6 +198,12 @@ impl<'a> ArgMatches<'a> {
     pub fn get_str(&self, id: &str) -> Option<&str> {
         let text = self.matches.try_get_one::<std::string::String>(id);
         text.ok().flatten().map(|text| text.as_str())
+    }
+
+    /// `None` for an id that the command hasn't, or of which there is no value.
+    pub fn get_strs(&self, id: &str) -> Option<Vec<&str>> {
+        let texts = self.matches.try_get_many::<std::string::String>(id);
+        Some(texts.ok().flatten()?.map(|text| text.as_str()).collect())
     }
 
     /// `false` for an id that the command hasn't.

@@ -190,6 +190,9 @@ pub(crate) mod fs {
 
     impl File {
         pub fn open(_rt: &HostRuntime, name: &str) -> io::Result<Self> {
+            // (the C library of WASI takes the slash off the start of a name, and so hides it from the host)
+            #[cfg(target_os = "wasi")]
+            let name = std::format!("./{name}");
             std::fs::File::open(name).map(Self)
         }
 
@@ -206,9 +209,9 @@ pub(crate) mod fs {
     }
 
     /// What is known of a file. The name of standard input is that on each system.
-    pub fn metadata(_rt: &HostRuntime, name: &str) -> io::Result<Metadata> {
+    pub fn metadata(rt: &HostRuntime, name: &str) -> io::Result<Metadata> {
         if name == "/dev/stdin" {
-            return io::standard(&std::io::stdin())?.metadata();
+            return rt.stdin_metadata();
         }
         std::fs::metadata(name)
     }
@@ -216,57 +219,81 @@ pub(crate) mod fs {
 
 pub(crate) mod io {
     use super::HostRuntime;
+    use crate::closed::is_closed;
     use capvet_core::rattle::alloc::Global;
-    use std::fs::File;
+    use std::fs::{File, Metadata};
 
     pub(crate) use std::io::{Error, ErrorKind, Read, Result, Write};
 
-    /// A standard stream as a file, without Rust's buffer.
+    /// A stream as a file, without Rust's buffer.
     #[cfg(unix)]
-    pub fn standard<S: std::os::unix::io::AsFd>(stream: &S) -> Result<File> {
+    fn file_of<S: std::os::unix::io::AsFd>(stream: &S) -> Result<File> {
         stream.as_fd().try_clone_to_owned().map(File::from)
     }
 
     #[cfg(windows)]
-    pub fn standard<S: std::os::windows::io::AsHandle>(stream: &S) -> Result<File> {
+    fn file_of<S: std::os::windows::io::AsHandle>(stream: &S) -> Result<File> {
         stream.as_handle().try_clone_to_owned().map(File::from)
     }
 
     #[cfg(not(any(unix, windows)))]
-    pub fn standard<S>(_stream: &S) -> Result<File> {
+    fn file_of<S>(_stream: &S) -> Result<File> {
         Err(Error::from(ErrorKind::Unsupported))
     }
 
-    /// A standard stream that is read or written without a buffer. If it can't be had as a file, it is Rust's.
-    pub struct Standard {
-        file: Option<File>,
-        is_output: bool,
+    /// What the system says of a descriptor that is closed.
+    fn closed() -> Error {
+        Error::from_raw_os_error(9)
+    }
+
+    /// A standard stream, which is read or written without a buffer.
+    pub enum Standard {
+        File(File),
+        /// It was closed when the program was started.
+        Closed,
+        /// It can't be had as a file, so it is Rust's.
+        Input,
+        Output,
+        Error,
     }
 
     pub type Stdin = Standard;
 
+    impl Standard {
+        /// The stream of this number, as a file if it can be had as one.
+        fn new(number: usize, file: Result<File>, other: Self) -> Self {
+            match file {
+                _ if is_closed(number) => Self::Closed,
+                Ok(file) => Self::File(file),
+                Err(_) => other,
+            }
+        }
+    }
+
     impl Read for Standard {
         #[inline]
         fn read(&mut self, buf: &mut [u8]) -> Result<usize> {
-            match &mut self.file {
-                Some(file) => file.read(buf),
-                None => std::io::stdin().read(buf),
+            match self {
+                Self::File(file) => file.read(buf),
+                Self::Closed => Err(closed()),
+                _ => std::io::stdin().read(buf),
             }
         }
     }
 
     impl Write for Standard {
         fn write(&mut self, bytes: &[u8]) -> Result<usize> {
-            match &mut self.file {
-                Some(file) => file.write(bytes),
-                None if self.is_output => std::io::stdout().write(bytes),
-                None => std::io::stderr().write(bytes),
+            match self {
+                Self::File(file) => file.write(bytes),
+                Self::Closed => Err(closed()),
+                Self::Error => std::io::stderr().write(bytes),
+                _ => std::io::stdout().write(bytes),
             }
         }
 
         fn flush(&mut self) -> Result<()> {
-            match &self.file {
-                None if self.is_output => std::io::stdout().flush(),
+            match self {
+                Self::Output => std::io::stdout().flush(),
                 _ => Ok(()),
             }
         }
@@ -274,26 +301,22 @@ pub(crate) mod io {
 
     impl HostRuntime {
         pub fn stdin(&self) -> Stdin {
-            let file = standard(&std::io::stdin()).ok();
-            Standard {
-                file,
-                is_output: false,
-            }
+            Standard::new(0, file_of(&std::io::stdin()), Standard::Input)
         }
 
         pub fn stdout(&self) -> Standard {
-            let file = standard(&std::io::stdout()).ok();
-            Standard {
-                file,
-                is_output: true,
-            }
+            Standard::new(1, file_of(&std::io::stdout()), Standard::Output)
         }
 
         pub fn stderr(&self) -> Standard {
-            let file = standard(&std::io::stderr()).ok();
-            Standard {
-                file,
-                is_output: false,
+            Standard::new(2, file_of(&std::io::stderr()), Standard::Error)
+        }
+
+        /// What is known of standard input as a file.
+        pub(super) fn stdin_metadata(&self) -> Result<Metadata> {
+            match self.stdin() {
+                Standard::File(file) => file.metadata(),
+                _ => Err(closed()),
             }
         }
 
@@ -383,20 +406,112 @@ pub(crate) mod io {
     }
 }
 
+pub(crate) mod hex {
+    use ::hex::FromHexError;
+
+    /// Writes the two hexadecimal digits of each byte, as the crate does.
+    #[inline(always)]
+    pub fn encode_to_slice<T: AsRef<[u8]>>(
+        input: T,
+        output: &mut [u8],
+    ) -> Result<(), FromHexError> {
+        let bytes = input.as_ref();
+        if let Ok(word) = <&[u8; 8]>::try_from(bytes) {
+            if let Ok(digits) = <&mut [u8; 16]>::try_from(&mut *output) {
+                write_word(word, digits);
+                return Ok(());
+            }
+        }
+        ::hex::encode_to_slice(bytes, output)
+    }
+
+    // A call of its own reads each byte from memory, which takes less than to shift it out of a word.
+    #[inline(never)]
+    fn write_word(word: &[u8; 8], digits: &mut [u8; 16]) {
+        if ::hex::encode_to_slice(word, digits).is_err() {
+            unreachable!()
+        }
+    }
+}
+
 pub(crate) mod itoa {
     /// Writes the digits of a number so that they end at `end`, and returns where they start.
-    #[inline]
+    // Most numbers of a tree have one digit, of which the compiler makes a single store.
+    #[inline(always)]
     pub fn write_digits(number: u64, out: &mut [u8], end: usize) -> usize {
-        let (mut left, mut at) = (number, end);
-        while left >= 10 || at == end {
-            at -= 1;
-            out[at] = b'0' + (left % 10) as u8;
-            left /= 10;
+        if number < 10 {
+            write_any(number as u8, out, end)
+        } else {
+            write_more(number, out, end)
         }
-        if left > 0 {
-            at -= 1;
-            out[at] = b'0' + left as u8;
+    }
+
+    // (the digits of a narrow type take fewer instructions, and the compiler sees when there are five or six)
+    #[inline(never)]
+    fn write_more(number: u64, out: &mut [u8], end: usize) -> usize {
+        match number {
+            0..=9_999 => write_any(number as u16, out, end),
+            10_000..=99_999 => write_any(number as u32, out, end),
+            100_000..=999_999 => write_any(number as u32, out, end),
+            1_000_000..=0xffff_ffff => write_any(number as u32, out, end),
+            _ => write_any(number, out, end),
         }
-        at
+    }
+
+    #[inline(always)]
+    fn write_any<I: ::itoa::Integer>(number: I, out: &mut [u8], end: usize) -> usize {
+        let mut digits = ::itoa::Buffer::new();
+        let text = digits.format(number).as_bytes();
+        let start = end - text.len();
+        let place = &mut out[start..end];
+        // (a slice of any length is copied by a call)
+        match text.len() {
+            2..=4 => copy_ends::<2>(text, place),
+            5..=8 => copy_ends::<4>(text, place),
+            _ => place.copy_from_slice(text),
+        }
+        start
+    }
+
+    // Copies the first and the last `N` bytes, which may overlap.
+    #[inline(always)]
+    fn copy_ends<const N: usize>(text: &[u8], place: &mut [u8]) {
+        let last = text.len() - N;
+        place[..N].copy_from_slice(&text[..N]);
+        place[last..].copy_from_slice(&text[last..]);
+    }
+}
+
+pub(crate) mod sha2 {
+    /// A hash function: a hasher that takes bytes piece by piece, and its digest.
+    pub trait Digest: Sized {
+        fn new() -> Self;
+
+        fn update(&mut self, data: impl AsRef<[u8]>);
+
+        fn finalize(self) -> [u8; 32];
+
+        fn digest(data: impl AsRef<[u8]>) -> [u8; 32] {
+            let mut hasher = Self::new();
+            hasher.update(data);
+            hasher.finalize()
+        }
+    }
+
+    /// SHA-256.
+    pub struct Sha256(::sha2::Sha256);
+
+    impl Digest for Sha256 {
+        fn new() -> Self {
+            Self(::sha2::Digest::new())
+        }
+
+        fn update(&mut self, data: impl AsRef<[u8]>) {
+            ::sha2::Digest::update(&mut self.0, data);
+        }
+
+        fn finalize(self) -> [u8; 32] {
+            ::sha2::Digest::finalize(self.0).into()
+        }
     }
 }

@@ -1,178 +1,120 @@
-//! Conversions between the errors, and to those of `std::io`, so that `?` works.
+//! Conversions between the errors, and to those of `std`, so that `?` works.
 
+#[cfg(feature = "alloc")]
+use crate::NotAccepted;
 use crate::{
-    CanonicalError, ExclusiveError, FrameError, GetError, PackMessageError, Refusal,
+    CanonicalError, ExclusiveError, FrameError, HasCapability, PackError, Refusal,
     UnpackMessageError, VetError,
 };
 
-impl From<Refusal> for VetError {
-    fn from(refusal: Refusal) -> Self {
-        Self::Refused(refusal)
-    }
+// (each error from those that it has as a variant)
+macro_rules! from {
+    ($($error:ident::$variant:ident($inner:ident),)+) => {$(
+        impl From<$inner> for $error {
+            fn from(error: $inner) -> Self {
+                Self::$variant(error)
+            }
+        }
+    )+};
 }
 
-impl From<FrameError> for CanonicalError {
-    fn from(error: FrameError) -> Self {
-        Self::NotAccepted(error.into())
-    }
+from! {
+    VetError::Frame(FrameError),
+    VetError::Refused(Refusal),
+    ExclusiveError::NotAccepted(VetError),
+    CanonicalError::HasCapability(HasCapability),
+    PackError::Frame(FrameError),
+    UnpackMessageError::Frame(FrameError),
 }
 
-impl From<FrameError> for ExclusiveError {
-    fn from(error: FrameError) -> Self {
-        Self::NotAccepted(error.into())
-    }
-}
-
-impl From<FrameError> for GetError {
-    fn from(error: FrameError) -> Self {
-        Self::NotAccepted(error.into())
-    }
-}
-
-impl From<FrameError> for PackMessageError {
-    fn from(error: FrameError) -> Self {
-        Self::Frame(error)
-    }
-}
-
-impl From<FrameError> for UnpackMessageError {
-    fn from(error: FrameError) -> Self {
-        Self::Frame(error)
+#[cfg(feature = "alloc")]
+impl From<NotAccepted> for VetError {
+    fn from(error: NotAccepted) -> Self {
+        error.error
     }
 }
 
 #[cfg(feature = "std")]
-mod to_io {
-    use crate::{
-        CanonicalError, ExclusiveError, FrameError, GetError, PackError, PackMessageError, Refusal,
-        UnpackError, UnpackMessageError, VetError,
-    };
+mod to_std {
+    use super::*;
+    use crate::{LimitsError, PathError, ReadError, UnknownReason};
+    use std::error::Error as StdError;
     use std::io::{Error, ErrorKind};
 
-    // The kind that an error has for those who know nothing of messages.
-    trait Kind {
-        fn kind(&self) -> ErrorKind;
-    }
+    macro_rules! errors {
+        ($($error:ty: $kind:expr,)+) => {$(
+            impl StdError for $error {}
 
-    impl Kind for Refusal {
-        fn kind(&self) -> ErrorKind {
-            ErrorKind::InvalidData
-        }
-    }
-
-    impl Kind for FrameError {
-        fn kind(&self) -> ErrorKind {
-            match self {
-                Self::NoMessage | Self::Truncated { .. } => ErrorKind::UnexpectedEof,
-                Self::BadLimits | Self::BadSegment { .. } => ErrorKind::InvalidInput,
-                Self::TooManySegments { .. }
-                | Self::TooLarge { .. }
-                | Self::Trailing { .. }
-                | Self::Other(_) => ErrorKind::InvalidData,
-            }
-        }
-    }
-
-    impl Kind for VetError {
-        fn kind(&self) -> ErrorKind {
-            match self {
-                Self::Frame(error) => error.kind(),
-                Self::Refused(_) | Self::ManySegments { .. } | Self::Other(_) => {
-                    ErrorKind::InvalidData
-                }
-            }
-        }
-    }
-
-    impl Kind for CanonicalError {
-        fn kind(&self) -> ErrorKind {
-            match self {
-                Self::NotAccepted(error) => error.kind(),
-                Self::HasCapability { .. } => ErrorKind::InvalidData,
-                Self::BufferTooSmall { .. } => ErrorKind::InvalidInput,
-            }
-        }
-    }
-
-    impl Kind for ExclusiveError {
-        fn kind(&self) -> ErrorKind {
-            match self {
-                Self::NotAccepted(error) => error.kind(),
-                Self::BufferTooSmall { .. } => ErrorKind::InvalidInput,
-            }
-        }
-    }
-
-    impl Kind for GetError {
-        fn kind(&self) -> ErrorKind {
-            match self {
-                Self::NotAccepted(error) => error.kind(),
-                Self::BadPath { .. } | Self::NoStep { .. } => ErrorKind::InvalidInput,
-            }
-        }
-    }
-
-    impl Kind for PackError {
-        fn kind(&self) -> ErrorKind {
-            match self {
-                Self::Truncated | Self::BufferTooSmall { .. } => ErrorKind::InvalidInput,
-                Self::Other(_) => ErrorKind::InvalidData,
-            }
-        }
-    }
-
-    impl Kind for PackMessageError {
-        fn kind(&self) -> ErrorKind {
-            match self {
-                Self::Frame(error) => error.kind(),
-                Self::BufferTooSmall { .. } => ErrorKind::InvalidInput,
-            }
-        }
-    }
-
-    impl Kind for UnpackError {
-        fn kind(&self) -> ErrorKind {
-            match self {
-                Self::Truncated => ErrorKind::UnexpectedEof,
-                Self::BufferTooSmall { .. } => ErrorKind::InvalidInput,
-                Self::TooLarge | Self::Other(_) => ErrorKind::InvalidData,
-            }
-        }
-    }
-
-    impl Kind for UnpackMessageError {
-        fn kind(&self) -> ErrorKind {
-            match self {
-                Self::NoMessage | Self::Truncated { .. } => ErrorKind::UnexpectedEof,
-                Self::BufferTooSmall { .. } => ErrorKind::InvalidInput,
-                Self::Frame(error) => error.kind(),
-            }
-        }
-    }
-
-    macro_rules! to_io {
-        ($($error:ty),+ $(,)?) => {$(
             /// The error is inside of the other one, and has the same text.
             impl From<$error> for Error {
                 fn from(error: $error) -> Self {
-                    Self::new(error.kind(), error)
+                    let kind: fn(&$error) -> ErrorKind = $kind;
+                    Self::new(kind(&error), error)
                 }
             }
         )+};
     }
 
-    to_io!(
-        CanonicalError,
-        ExclusiveError,
-        FrameError,
-        GetError,
-        PackError,
-        PackMessageError,
-        Refusal,
-        UnpackError,
-        UnpackMessageError,
-        VetError,
-    );
+    errors! {
+        CanonicalError: |error| match error {
+            CanonicalError::HasCapability(_) => ErrorKind::InvalidData,
+            CanonicalError::BufferTooSmall { .. } => ErrorKind::InvalidInput,
+        },
+        ExclusiveError: |error| match error {
+            ExclusiveError::NotAccepted(error) => kind(error),
+            ExclusiveError::BufferTooSmall { .. } => ErrorKind::InvalidInput,
+        },
+        FrameError: |error| kind_of_frame(error),
+        HasCapability: |_| ErrorKind::InvalidData,
+        LimitsError: |_| ErrorKind::InvalidInput,
+        NotAccepted: |error| kind(&error.error),
+        PackError: |error| match error {
+            PackError::Frame(error) => kind_of_frame(error),
+            PackError::Truncated | PackError::TooLarge { .. } => ErrorKind::InvalidData,
+            PackError::BufferTooSmall { .. } => ErrorKind::InvalidInput,
+        },
+        PathError: |_| ErrorKind::InvalidInput,
+        Refusal: |_| ErrorKind::InvalidData,
+        UnknownReason: |_| ErrorKind::InvalidInput,
+        UnpackMessageError: |error| match error {
+            UnpackMessageError::NoMessage | UnpackMessageError::Truncated { .. } => {
+                ErrorKind::UnexpectedEof
+            }
+            UnpackMessageError::OtherBuffer | UnpackMessageError::BufferTooSmall { .. } => {
+                ErrorKind::InvalidInput
+            }
+            UnpackMessageError::Frame(error) => kind_of_frame(error),
+        },
+        VetError: kind,
+    }
+
+    fn kind(error: &VetError) -> ErrorKind {
+        match error {
+            VetError::Frame(error) => kind_of_frame(error),
+            VetError::Refused(_) => ErrorKind::InvalidData,
+        }
+    }
+
+    fn kind_of_frame(error: &FrameError) -> ErrorKind {
+        match error {
+            FrameError::NoMessage | FrameError::Truncated { .. } => ErrorKind::UnexpectedEof,
+            FrameError::BadSegment { .. } => ErrorKind::InvalidInput,
+            FrameError::TooManySegments { .. }
+            | FrameError::TooLarge { .. }
+            | FrameError::Trailing { .. } => ErrorKind::InvalidData,
+        }
+    }
+
+    impl StdError for ReadError {}
+
+    impl From<ReadError> for Error {
+        fn from(error: ReadError) -> Self {
+            match error {
+                ReadError::Io(error) => error,
+                ReadError::NotAccepted(error) => error.into(),
+            }
+        }
+    }
 }
 
 #[cfg(all(test, feature = "std"))]
@@ -182,7 +124,7 @@ mod tests {
 
     // The error of a call on these bytes, as a function that reads returns it.
     fn as_io(bytes: &[u8]) -> Result<Report, Error> {
-        Ok(vet(bytes, Limits::DEFAULT)?)
+        Ok(*vet(bytes, Limits::DEFAULT)?.report())
     }
 
     #[test]
@@ -212,39 +154,83 @@ mod tests {
 
     #[test]
     fn each_error_has_a_kind() {
-        let frame = FrameError::BadLimits;
-        let refusal = match vet(
-            &[0, 0, 0, 0, 1, 0, 0, 0, 4, 0, 0, 0, 1, 0, 0, 0],
-            Limits::DEFAULT,
-        ) {
-            Err(VetError::Refused(refusal)) => refusal,
-            other => panic!("{other:?}"),
+        let frame = FrameError::BadSegment { index: 1 };
+        let cut = FrameError::Truncated { required: 16 };
+        let position = Position {
+            segment: 0,
+            word: 7,
         };
-        let errors: [(Error, ErrorKind); 12] = [
+        let capability = HasCapability { position };
+        let refused = MessageBuf::vet(vec![0; 8], Limits::DEFAULT).expect_err("without a root");
+        let required = 8;
+        let errors: [(Error, ErrorKind); 18] = [
             (frame.into(), ErrorKind::InvalidInput),
-            (VetError::from(frame).into(), ErrorKind::InvalidInput),
-            (VetError::from(refusal).into(), ErrorKind::InvalidData),
-            (refusal.into(), ErrorKind::InvalidData),
-            (CanonicalError::from(frame).into(), ErrorKind::InvalidInput),
-            (ExclusiveError::from(frame).into(), ErrorKind::InvalidInput),
-            (GetError::from(frame).into(), ErrorKind::InvalidInput),
+            (VetError::from(cut).into(), ErrorKind::UnexpectedEof),
             (
-                PackMessageError::from(frame).into(),
+                VetError::from(refused.clone()).into(),
+                ErrorKind::InvalidData,
+            ),
+            (refused.clone().into(), ErrorKind::InvalidData),
+            (
+                ReadError::NotAccepted(refused).into(),
+                ErrorKind::InvalidData,
+            ),
+            (capability.into(), ErrorKind::InvalidData),
+            (
+                CanonicalError::from(capability).into(),
+                ErrorKind::InvalidData,
+            ),
+            (
+                CanonicalError::BufferTooSmall { required }.into(),
                 ErrorKind::InvalidInput,
             ),
             (
-                UnpackMessageError::from(frame).into(),
+                ExclusiveError::from(VetError::from(cut)).into(),
+                ErrorKind::UnexpectedEof,
+            ),
+            (
+                ExclusiveError::BufferTooSmall { required }.into(),
                 ErrorKind::InvalidInput,
+            ),
+            (PackError::from(cut).into(), ErrorKind::UnexpectedEof),
+            (PackError::Truncated.into(), ErrorKind::InvalidData),
+            (
+                PackError::BufferTooSmall { required }.into(),
+                ErrorKind::InvalidInput,
+            ),
+            (
+                UnpackMessageError::from(cut).into(),
+                ErrorKind::UnexpectedEof,
             ),
             (
                 UnpackMessageError::NoMessage.into(),
                 ErrorKind::UnexpectedEof,
             ),
-            (PackError::Truncated.into(), ErrorKind::InvalidInput),
-            (UnpackError::Truncated.into(), ErrorKind::UnexpectedEof),
+            (
+                UnpackMessageError::OtherBuffer.into(),
+                ErrorKind::InvalidInput,
+            ),
+            (
+                "x".parse::<Path>().expect_err("no path").into(),
+                ErrorKind::InvalidInput,
+            ),
+            (
+                Limits::new(u64::MAX, 0, 0).expect_err("above").into(),
+                ErrorKind::InvalidInput,
+            ),
         ];
         for (error, kind) in errors {
             assert_eq!(error.kind(), kind, "{error}");
         }
+    }
+
+    // Errors are passed up by value, and lints ask for less than 128 bytes. No type of the crate has kilobytes.
+    #[test]
+    fn nothing_is_large() {
+        use std::mem::size_of;
+        assert!(size_of::<NotAccepted>() < 128 && size_of::<ReadError>() < 128);
+        assert!(size_of::<Message>() <= 128 && size_of::<VetError>() <= 64);
+        assert!(size_of::<Path>() <= 32 && size_of::<Explanation>() <= 64);
+        assert!(size_of::<Nodes<&[Step]>>() < 700 && size_of::<Feed>() <= 192);
     }
 }

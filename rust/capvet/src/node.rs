@@ -1,7 +1,7 @@
 //! The nodes of a message, read by their paths without a schema.
 
 use crate::calls::{self, Answer, RawNode};
-use crate::{Limits, VetError};
+use crate::{Limits, Step, VetError};
 use core::convert::TryInto;
 use core::fmt;
 use core::iter::FusedIterator;
@@ -51,11 +51,6 @@ pub enum Kind {
         /// Its index in the table of capabilities.
         index: u32,
     },
-    /// A kind of a later library that this crate doesn't know.
-    Other(
-        /// The number of the kind.
-        u32,
-    ),
 }
 
 impl Kind {
@@ -82,10 +77,9 @@ impl Kind {
                 data_words,
                 pointers,
             },
-            5 => Self::Capability {
+            _ => Self::Capability {
                 index: raw.capability,
             },
-            other => Self::Other(other),
         }
     }
 }
@@ -107,7 +101,6 @@ impl fmt::Display for Kind {
                 pointers,
             } => write!(f, "structs {count} {data_words} {pointers}"),
             Self::Capability { index } => write!(f, "cap {index}"),
-            Self::Other(kind) => write!(f, "unknown kind {kind}"),
         }
     }
 }
@@ -176,7 +169,7 @@ impl<'b> Node<'b> {
     pub fn bool_at(&self, i: usize) -> Option<bool> {
         match self.kind {
             Kind::Values { element: 1, count } if i >= count as usize => None,
-            _ => Some(self.u8_at(i / 8)? >> (i % 8) & 1 == 1),
+            _ => Some((self.u8_at(i / 8)? >> (i % 8)) & 1 == 1),
         }
     }
 
@@ -199,7 +192,8 @@ impl<'b> Node<'b> {
 
     /// The elements of a list of structs, each of them a struct. Another kind of node has none.
     ///
-    /// Their pointers are read by [`node`], by the list's path with an element and a pointer after it.
+    /// Their pointers are read by [`Message::get`](crate::Message::get), by the list's path with an element and a pointer after
+    /// it.
     pub fn elements(&self) -> Elements<'b> {
         let (count, data_words, pointers) = match self.kind {
             Kind::Structs {
@@ -261,116 +255,65 @@ impl ExactSizeIterator for Elements<'_> {}
 
 impl FusedIterator for Elements<'_> {}
 
-/// The error of [`node`] and of [`nodes`](crate::nodes()).
-#[derive(Clone, Copy, Debug, PartialEq, Eq, Hash)]
-#[non_exhaustive]
-pub enum GetError {
-    /// The text is not a path.
-    #[non_exhaustive]
-    BadPath {
-        /// The first byte at which it is no path, counted from 0, or its length if it ends too early.
-        position: usize,
-    },
-    /// The path has no step that varies. Only [`nodes`](crate::nodes()) has this error.
-    #[non_exhaustive]
-    NoStep {
-        /// How many steps it has.
-        steps: usize,
-    },
-    /// The bytes hold no complete frame within the limits, or a pointer on the path isn't accepted.
-    NotAccepted(
-        /// The reason.
-        VetError,
-    ),
-}
-
-impl From<VetError> for GetError {
-    fn from(error: VetError) -> Self {
-        Self::NotAccepted(error)
-    }
-}
-
-impl fmt::Display for GetError {
-    fn fmt(&self, f: &mut fmt::Formatter<'_>) -> fmt::Result {
-        match self {
-            Self::BadPath { position } => write!(f, "BadPath at byte {position}"),
-            Self::NoStep { steps } => write!(f, "BadPath at step {steps}"),
-            Self::NotAccepted(error) => error.fmt(f),
-        }
-    }
-}
-
-#[cfg(feature = "std")]
-impl std::error::Error for GetError {}
-
-/// Returns the node at a path in the message that `bytes` are, or `None` if the path leads to nothing. It allocates nothing.
+/// Returns the node at a path in the message that `bytes` are, which need not have been vetted: only the pointers on the path
+/// are checked. `None` means that the path leads to nothing. It allocates nothing.
 ///
-/// `/` is the root. `/p0/i7/p2` is the root's pointer 0, its element 7, and that element's pointer 2: `/p` steps from a
-/// struct to one of its pointers, and `/i` from a list of pointers or structs to an element. A reader with a schema takes
-/// both `None` and a null node as the default of the field.
-///
-/// A number is at most 65535 after `/p`, and at most 4294967295 after `/i`.
-///
-/// Only the pointers on the path are checked, so the message need not have been vetted. For a message that
-/// [`vet`](crate::vet) accepts with the same limits, and without [`Limits::no_table`], no path but a bad one is an error.
+/// It is for a program that reads one field of a message and passes the message on. [`Message::get`](crate::Message::get) says
+/// what a path is, and what `None` means.
 ///
 /// # Errors
 ///
 /// The first of these that applies.
 ///
-/// - [`GetError::NotAccepted`] with [`FrameError::BadLimits`](crate::FrameError::BadLimits): the limits have
-///   [`Limits::no_table`].
-/// - [`GetError::BadPath`]: `path` is not a path.
-/// - [`GetError::NotAccepted`] with [`VetError::Frame`]: the bytes hold no complete frame within the limits, or trailing bytes
-///   follow the message.
-/// - [`GetError::NotAccepted`] with [`VetError::Refused`]: it names the first pointer on the path at which anything is wrong or
-///   a limit is exceeded.
-/// - [`GetError::NotAccepted`] with [`VetError::ManySegments`]: the message has 512 segments.
-/// - [`GetError::NotAccepted`] with [`VetError::Refused`]: it names the first pointer on the path that isn't strict.
+/// - [`VetError::Frame`]: the bytes hold no complete frame within the limits, or trailing bytes follow the message.
+/// - [`VetError::Refused`]: it names the first pointer on the path at which anything is wrong or a limit is exceeded, or the first
+///   that isn't strict.
 ///
 /// # Examples
 ///
 /// ```
-/// use capvet::{GetError, Limits};
+/// use capvet::{Limits, Step};
 ///
-/// // A struct of one data word and one pointer, which leads to the text "Ada".
-/// let message = [
-///     0, 0, 0, 0, 4, 0, 0, 0, 0, 0, 0, 0, 1, 0, 1, 0, 7, 0, 0, 0, 0, 0, 0, 0, 1, 0, 0, 0, 34, 0, 0, 0, 65, 100, 97, 0, 0, 0,
-///     0, 0,
+/// // A struct of two pointers. The first is null, and the second leads past the end of the segment.
+/// let bytes = [
+///     0, 0, 0, 0, 3, 0, 0, 0, 0, 0, 0, 0, 0, 0, 2, 0, 0, 0, 0, 0, 0, 0, 0, 0, 0, 0, 0, 0, 1, 0, 0, 0,
 /// ];
-/// let root = capvet::node(&message, "/", Limits::DEFAULT)?.unwrap();
-/// assert_eq!((root.to_string(), root.u64_at(0)), ("struct 1 1".to_owned(), Some(7)));
-/// let name = capvet::node(&message, "/p0", Limits::DEFAULT)?.unwrap();
-/// assert_eq!((name.to_string(), name.text()), ("list 2 4".to_owned(), Some("Ada")));
-/// assert_eq!(capvet::node(&message, "/p1", Limits::DEFAULT)?, None);
-/// let error = capvet::node(&message, "/p0/x", Limits::DEFAULT).unwrap_err();
-/// assert!(matches!(error, GetError::BadPath { position: 4, .. }));
-/// # Ok::<(), GetError>(())
+/// let node = capvet::peek(&bytes, [Step::Pointer(0)], Limits::DEFAULT)?;
+/// assert_eq!(node.unwrap().to_string(), "null");
+/// let refused = capvet::peek(&bytes, [Step::Pointer(1)], Limits::DEFAULT).unwrap_err();
+/// assert_eq!(refused.to_string(), "refused OutOfSegment at 0:2 pointers 2");
+/// # Ok::<(), capvet::VetError>(())
 /// ```
-pub fn node<'b>(bytes: &'b [u8], path: &str, limits: Limits) -> Result<Option<Node<'b>>, GetError> {
-    let (answer, raw_node, raw) = calls::get(bytes, &limits, path);
+pub fn peek<P: AsRef<[Step]>>(
+    bytes: &[u8],
+    path: P,
+    limits: Limits,
+) -> Result<Option<Node<'_>>, VetError> {
+    let (answer, raw_node, raw) = calls::get(bytes, &limits, path.as_ref());
     match answer {
         Answer::OK => Ok(Some(Node::of(bytes, &raw_node))),
         Answer::NO_NODE => Ok(None),
-        Answer::BAD_PATH => Err(GetError::BadPath {
-            position: raw.detail as usize,
-        }),
-        _ => Err(VetError::of(answer, &raw).into()),
+        _ => Err(VetError::of(answer, &raw)),
     }
 }
 
 #[cfg(all(test, feature = "std"))]
 mod tests {
     use super::*;
-    use crate::{Reason, Refusal};
+    use crate::{vet, Path, Reason, Refusal};
 
     const HEADER: &str = include_str!("../../../include/capvet.h");
     const CONTACTS: &[u8] = include_bytes!("../../../examples/contacts.bin");
     const TELEMETRY: &[u8] = include_bytes!("../../../examples/telemetry.bin");
 
     fn found<'b>(bytes: &'b [u8], path: &str) -> Node<'b> {
-        let node = node(bytes, path, Limits::DEFAULT);
-        node.expect("the path is accepted").expect(path)
+        let steps: Path = path.parse().expect(path);
+        let node = peek(bytes, &steps, Limits::DEFAULT);
+        let node = node.expect("the path is accepted").expect(path);
+        if let Ok(message) = vet(bytes, Limits::DEFAULT) {
+            assert_eq!(message.get(&steps), Some(node));
+        }
+        node
     }
 
     #[test]
@@ -475,24 +418,42 @@ mod tests {
     }
 
     #[test]
-    fn a_path_leads_to_nothing_or_is_bad() {
-        for path in ["/p3", "/i0", "/p0/i7", "/p0/p0", "/p0/i1/p0/i0"] {
-            assert_eq!(node(CONTACTS, path, Limits::DEFAULT), Ok(None), "{path}");
+    fn a_frame_is_whole() {
+        let more = [CONTACTS, &[7]].concat();
+        for (bytes, text) in [(&[][..], "NoMessage"), (&more, "Trailing 1")] {
+            for path in [&[][..], &[Step::Pointer(0)]] {
+                let error = peek(bytes, path, Limits::DEFAULT).expect_err("it is no frame");
+                assert_eq!(error.to_string(), text);
+            }
         }
-        for (path, position) in [
-            ("", 0),
-            ("p0", 0),
-            ("/p0/", 4),
-            ("/p01", 3),
-            ("/p0/i1/p0x", 9),
-        ] {
-            let bad = Err(GetError::BadPath { position });
-            assert_eq!(node(CONTACTS, path, Limits::DEFAULT), bad, "{path}");
-            // (before what is wrong with the bytes)
-            assert_eq!(node(&[], path, Limits::DEFAULT), bad, "{path}");
+    }
+
+    #[test]
+    fn a_path_leads_to_nothing() {
+        let message = vet(CONTACTS, Limits::DEFAULT).expect("the sample is accepted");
+        for path in ["/p3", "/i0", "/p0/i7", "/p0/p0", "/p0/i1/p0/i0", "/p65535"] {
+            let path: Path = path.parse().expect(path);
+            assert_eq!(peek(CONTACTS, &path, Limits::DEFAULT), Ok(None));
+            assert_eq!(message.get(&path), None);
         }
-        let text = GetError::BadPath { position: 4 }.to_string();
-        assert_eq!(text, "BadPath at byte 4");
+    }
+
+    // A struct whose pointer leads back to itself: at each path there is a node, up to the limit of levels.
+    #[test]
+    fn long_paths_have_a_node_or_a_refusal() {
+        let cycle = [0, 0, 0, 0, 1, 0, 0, 0, 0xfc, 0xff, 0xff, 0xff, 0, 0, 1, 0];
+        for (depth, length) in [(3, 2), (16, 15), (17, 16), (18, 17), (256, 255)] {
+            let limits = Limits::DEFAULT.with_depth(depth);
+            let path = vec![Step::Pointer(0); length + 1];
+            let kind = |path: &[Step]| peek(&cycle, path, limits).map(|it| it.map(|it| it.kind()));
+            assert!(matches!(
+                kind(&path[..length]),
+                Ok(Some(Kind::Struct { .. }))
+            ));
+            let error = kind(&path).expect_err("it is too deep");
+            assert_eq!(error.name(), "DepthLimit");
+            assert_eq!(kind(&[Step::Pointer(0); 2000]), Err(error));
+        }
     }
 
     #[test]
@@ -505,11 +466,13 @@ mod tests {
         assert_eq!(error.to_string(), "refused OutOfSegment at 0:7 pointers 3");
         assert_eq!(found(&damaged, "/p0").kind(), found(CONTACTS, "/p0").kind());
         assert_eq!(found(&damaged, "/p0/i1/p0").text(), Some(""));
-        match node(&damaged, "/p0/i0/p0", limits) {
-            Err(GetError::NotAccepted(VetError::Refused(Refusal {
-                reason, position, ..
-            }))) => {
+        let path = [Step::Pointer(0), Step::Element(0), Step::Pointer(0)];
+        match peek(&damaged, path, limits) {
+            Err(VetError::Refused(Refusal {
+                reason, pointer, ..
+            })) => {
                 assert_eq!(reason, Reason::OutOfSegment);
+                let position = pointer.expect("it names a pointer").position;
                 assert_eq!(position.to_string(), "0:7");
             }
             other => panic!("{other:?}"),

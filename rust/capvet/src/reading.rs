@@ -1,94 +1,24 @@
 //! The messages of a stream that is read.
 
-use crate::{
-    frame_length, unpack_message, vet, FrameError, Limits, Report, UnpackMessageError, Unpacking,
-    VetError,
-};
+use crate::{Feed, Limits, MessageBuf, NotAccepted};
 use std::fmt;
-use std::io::{self, Read};
+use std::io::{self, ErrorKind, Read};
 use std::iter::FusedIterator;
-use std::mem;
-
-/// An accepted message that was read from a stream, with its bytes.
-#[derive(Clone, Debug, PartialEq, Eq, Hash)]
-pub struct MessageBuf {
-    bytes: Vec<u8>,
-    report: Report,
-}
-
-impl MessageBuf {
-    /// The bytes of its frame.
-    #[must_use]
-    pub fn bytes(&self) -> &[u8] {
-        &self.bytes
-    }
-
-    /// The bytes of its frame, which the caller then owns.
-    #[must_use]
-    pub fn into_bytes(self) -> Vec<u8> {
-        self.bytes
-    }
-
-    /// The numbers of its tree.
-    #[must_use]
-    pub const fn report(&self) -> &Report {
-        &self.report
-    }
-
-    // The message that these bytes are, if it is accepted.
-    fn vetted(bytes: Vec<u8>, limits: Limits) -> Result<Self, ReadError> {
-        let report = vet(&bytes, limits)?;
-        Ok(Self { bytes, report })
-    }
-}
-
-impl AsRef<[u8]> for MessageBuf {
-    fn as_ref(&self) -> &[u8] {
-        &self.bytes
-    }
-}
 
 /// The error of a message of a stream that is read.
 #[derive(Debug)]
 #[non_exhaustive]
 pub enum ReadError {
-    /// The stream can't be read. The bytes that came before are kept: the next call goes on.
+    /// The stream can't be read.
     Io(
         /// The reason.
         io::Error,
     ),
-    /// The message isn't accepted. After a [`VetError::Frame`] the iterator ends.
+    /// The message isn't accepted.
     NotAccepted(
-        /// The reason.
-        VetError,
+        /// The reason, the bytes, and the place in the stream.
+        NotAccepted,
     ),
-}
-
-impl From<io::Error> for ReadError {
-    fn from(error: io::Error) -> Self {
-        Self::Io(error)
-    }
-}
-
-impl From<VetError> for ReadError {
-    fn from(error: VetError) -> Self {
-        Self::NotAccepted(error)
-    }
-}
-
-impl From<FrameError> for ReadError {
-    fn from(error: FrameError) -> Self {
-        Self::NotAccepted(error.into())
-    }
-}
-
-impl From<ReadError> for io::Error {
-    fn from(error: ReadError) -> Self {
-        match error {
-            ReadError::Io(error) => error,
-            ReadError::NotAccepted(error) => error.into(),
-        }
-    }
 }
 
 impl fmt::Display for ReadError {
@@ -100,29 +30,12 @@ impl fmt::Display for ReadError {
     }
 }
 
-impl std::error::Error for ReadError {}
-
 /// An iterator over the messages of a stream; see [`read_messages`].
+#[derive(Debug)]
 #[must_use = "an iterator reads nothing before it is asked"]
 pub struct ReadMessages<R> {
     reader: R,
-    limits: Limits,
-    // what has come of the next message, and how many bytes of it get further
-    bytes: Vec<u8>,
-    required: usize,
-    is_over: bool,
-}
-
-// (how many bytes are held, and not the bytes: they may be many)
-impl<R: fmt::Debug> fmt::Debug for ReadMessages<R> {
-    fn fmt(&self, f: &mut fmt::Formatter<'_>) -> fmt::Result {
-        f.debug_struct("ReadMessages")
-            .field("reader", &self.reader)
-            .field("limits", &self.limits)
-            .field("held", &self.bytes.len())
-            .field("is_over", &self.is_over)
-            .finish_non_exhaustive()
-    }
+    feed: Feed,
 }
 
 /// Returns an iterator over the messages that `reader` gives, one after the other (encoding: Serialization Over a Stream). It
@@ -137,19 +50,20 @@ impl<R: fmt::Debug> fmt::Debug for ReadMessages<R> {
 ///
 /// An item is an error in these cases.
 ///
-/// - [`ReadError::Io`]: the reader fails. What came before is kept, and the next call reads on. So a time limit of a socket
-///   cuts no message. A reader that is interrupted is asked again, without an error.
-/// - [`ReadError::NotAccepted`] with [`VetError::Refused`] or [`VetError::ManySegments`]: the message is refused. The iterator
-///   goes on with the next one.
-/// - [`ReadError::NotAccepted`] with [`VetError::Frame`]: the stream ends inside a message, or goes on with what is no frame
+/// - [`ReadError::NotAccepted`] with [`VetError::Refused`](crate::VetError::Refused): the message is refused. The iterator goes on
+///   with the next one.
+/// - [`ReadError::NotAccepted`] with [`VetError::Frame`](crate::VetError::Frame): the stream ends inside a message, or goes on with what is no frame
 ///   within the limits. This is the last item.
+/// - [`ReadError::Io`]: the reader fails. For [`WouldBlock`](ErrorKind::WouldBlock) and [`TimedOut`](ErrorKind::TimedOut) what
+///   came before is kept, and the next call reads on. So a time limit of a socket cuts no message. Any other error is the last
+///   item. A reader that is interrupted is asked again, without an error.
 ///
 /// If the stream ends between two messages, the iterator ends without an error.
 ///
 /// # Examples
 ///
 /// ```
-/// use capvet::{FrameError, Limits, ReadError, VetError};
+/// use capvet::{Limits, ReadError};
 ///
 /// let null = [0, 0, 0, 0, 1, 0, 0, 0, 0, 0, 0, 0, 0, 0, 0, 0];
 /// let cycle = [0, 0, 0, 0, 1, 0, 0, 0, 0xfc, 0xff, 0xff, 0xff, 0, 0, 1, 0];
@@ -157,110 +71,23 @@ impl<R: fmt::Debug> fmt::Debug for ReadMessages<R> {
 ///
 /// let mut messages = capvet::read_messages(&stream[..], Limits::DEFAULT);
 /// assert_eq!(messages.next().unwrap()?.bytes(), null);
-/// let refused = messages.next().unwrap().unwrap_err();
-/// assert_eq!(refused.to_string(), "refused DepthLimit at 0:0 pointers 65");
+/// match messages.next() {
+///     Some(Err(ReadError::NotAccepted(refused))) => {
+///         assert_eq!(refused.to_string(), "refused DepthLimit at 0:0 pointers 65");
+///         assert_eq!((refused.number, refused.offset, &refused.unvetted[..]), (1, 16, &cycle[..]));
+///         assert!(refused.path().is_some());
+///     }
+///     other => panic!("{other:?}"),
+/// }
 /// assert_eq!(messages.next().unwrap()?.report().pointers, 1);
 /// let cut = messages.next().unwrap().unwrap_err();
 /// assert_eq!(cut.to_string(), "Truncated, 16 bytes are required");
 /// assert!(messages.next().is_none());
 /// # Ok::<(), ReadError>(())
 /// ```
-pub fn read_messages<R: Read>(reader: R, limits: Limits) -> ReadMessages<R> {
-    ReadMessages {
-        reader,
-        limits,
-        bytes: Vec::new(),
-        required: FIRST,
-        is_over: false,
-    }
-}
-
-// The bytes of the first word of a table.
-const FIRST: usize = 8;
-// The most bytes of a packed stream that are read at a time.
-const PIECE: usize = 4096;
-
-impl<R> ReadMessages<R> {
-    /// The bytes that have come of the next message.
-    #[must_use]
-    pub fn partial(&self) -> &[u8] {
-        &self.bytes
-    }
-
-    /// The reader. What has come of the next message is dropped.
-    #[must_use]
-    pub fn into_inner(self) -> R {
-        self.reader
-    }
-}
-
-impl<R: Read> ReadMessages<R> {
-    // Reads the next message whole. There is none at the end of the stream.
-    fn read(&mut self) -> Result<Option<Vec<u8>>, ReadError> {
-        loop {
-            let missing = self.required - self.bytes.len();
-            let mut rest = self.reader.by_ref().take(missing as u64);
-            rest.read_to_end(&mut self.bytes)?;
-            let error = match frame_length(&self.bytes, self.limits) {
-                Ok(_) => {
-                    self.required = FIRST;
-                    return Ok(Some(mem::take(&mut self.bytes)));
-                }
-                Err(FrameError::NoMessage) => return Ok(None),
-                Err(error) => error,
-            };
-            match error.required() {
-                Some(required) if self.bytes.len() == self.required => self.required = required,
-                _ => return Err(error.into()),
-            }
-        }
-    }
-}
-
-impl<R: Read> Iterator for ReadMessages<R> {
-    type Item = Result<MessageBuf, ReadError>;
-
-    fn next(&mut self) -> Option<Self::Item> {
-        if self.is_over {
-            return None;
-        }
-        let read = self.read();
-        self.is_over = is_last(&read);
-        let bytes = read.transpose()?;
-        Some(bytes.and_then(|bytes| MessageBuf::vetted(bytes, self.limits)))
-    }
-}
-
-impl<R: Read> FusedIterator for ReadMessages<R> {}
-
-// Whether nothing can be read after this.
-fn is_last(read: &Result<Option<Vec<u8>>, ReadError>) -> bool {
-    matches!(read, Ok(None) | Err(ReadError::NotAccepted(_)))
-}
-
-/// An iterator over the messages of a packed stream; see [`read_packed_messages`].
-#[must_use = "an iterator reads nothing before it is asked"]
-pub struct ReadPackedMessages<R> {
-    reader: R,
-    limits: Limits,
-    // the packed bytes that have come and aren't unpacked yet are `packed[start..]`
-    packed: Vec<u8>,
-    start: usize,
-    out: Vec<u8>,
-    state: Unpacking,
-    is_over: bool,
-}
-
-// (how many bytes are held, and not the bytes: they may be many)
-impl<R: fmt::Debug> fmt::Debug for ReadPackedMessages<R> {
-    fn fmt(&self, f: &mut fmt::Formatter<'_>) -> fmt::Result {
-        f.debug_struct("ReadPackedMessages")
-            .field("reader", &self.reader)
-            .field("limits", &self.limits)
-            .field("held", &(self.packed.len() - self.start))
-            .field("is_over", &self.is_over)
-            .finish_non_exhaustive()
-    }
+pub const fn read_messages<R: Read>(reader: R, limits: Limits) -> ReadMessages<R> {
+    let feed = Feed::new(limits);
+    ReadMessages { reader, feed }
 }
 
 /// Returns an iterator over the messages of the packed stream that `reader` gives (encoding: Packing). It vets each one as it
@@ -274,7 +101,7 @@ impl<R: fmt::Debug> fmt::Debug for ReadPackedMessages<R> {
 ///
 /// # Errors
 ///
-/// Those of [`read_messages`]. In [`FrameError::Truncated`] `required` is about packed bytes.
+/// Those of [`read_messages`]. In [`FrameError::Truncated`](crate::FrameError::Truncated) `required` is about packed bytes.
 ///
 /// # Examples
 ///
@@ -288,19 +115,21 @@ impl<R: fmt::Debug> fmt::Debug for ReadPackedMessages<R> {
 /// }
 /// # Ok::<(), ReadError>(())
 /// ```
-pub fn read_packed_messages<R: Read>(reader: R, limits: Limits) -> ReadPackedMessages<R> {
-    ReadPackedMessages {
-        reader,
-        limits,
-        packed: Vec::new(),
-        start: 0,
-        out: Vec::new(),
-        state: Unpacking::new(),
-        is_over: false,
-    }
+pub const fn read_packed_messages<R: Read>(reader: R, limits: Limits) -> ReadMessages<R> {
+    let feed = Feed::packed(limits);
+    ReadMessages { reader, feed }
 }
 
-impl<R> ReadPackedMessages<R> {
+// The most bytes of a packed stream that are read at a time.
+const PIECE: usize = 4096;
+
+impl<R> ReadMessages<R> {
+    /// The bytes that have come of the next message, packed ones of a packed stream.
+    #[must_use]
+    pub fn partial(&self) -> &[u8] {
+        self.feed.partial()
+    }
+
     /// The reader. What has come of further messages is dropped.
     #[must_use]
     pub fn into_inner(self) -> R {
@@ -308,81 +137,181 @@ impl<R> ReadPackedMessages<R> {
     }
 }
 
-impl<R: Read> ReadPackedMessages<R> {
-    // Reads some bytes, also after a signal. Whether there are any.
-    fn receive(&mut self) -> io::Result<bool> {
-        let mut piece = [0; PIECE];
-        let count = loop {
-            match self.reader.read(&mut piece) {
-                Err(error) if error.kind() == io::ErrorKind::Interrupted => {}
-                result => break result?,
+impl<R: Read> ReadMessages<R> {
+    // Reads what is missing of the next message. Of a packed stream it reads some bytes.
+    fn receive(&mut self) -> io::Result<()> {
+        let has_ended = match self.feed.is_packed() {
+            true => receive_some(&mut self.reader, self.feed.space())? == 0,
+            false => {
+                let missing = self.feed.missing();
+                let mut rest = self.reader.by_ref().take(missing as u64);
+                rest.read_to_end(self.feed.space())? < missing
             }
         };
-        self.packed.drain(..self.start);
-        self.start = 0;
-        self.packed.extend_from_slice(&piece[..count]);
-        Ok(count > 0)
+        if has_ended {
+            self.feed.finish();
+        }
+        Ok(())
     }
+}
 
-    // Makes the buffer this long, and keeps what is unpacked.
-    fn grow(&mut self, length: usize) {
-        // (zeroed memory that nobody writes costs nothing)
-        let mut longer = vec![0; length];
-        let written = self.state.written();
-        longer[..written].copy_from_slice(&self.out[..written]);
-        self.out = longer;
-    }
-
-    // Reads the next message whole. There is none at the end of the stream.
-    fn read(&mut self) -> Result<Option<Vec<u8>>, ReadError> {
-        loop {
-            let mut packed = &self.packed[self.start..];
-            let before = packed.len();
-            let unpacked = unpack_message(&mut packed, self.limits, &mut self.out, &mut self.state);
-            self.start += before - packed.len();
-            match unpacked {
-                Ok(length) => {
-                    let mut message = mem::take(&mut self.out);
-                    message.truncate(length);
-                    return Ok(Some(message));
-                }
-                Err(UnpackMessageError::BufferTooSmall { required }) => self.grow(required),
-                Err(UnpackMessageError::NoMessage) => {
-                    if !self.receive()? {
-                        return Ok(None);
-                    }
-                }
-                Err(UnpackMessageError::Truncated { required }) => {
-                    if !self.receive()? {
-                        return Err(FrameError::Truncated { required }.into());
-                    }
-                }
-                Err(UnpackMessageError::Frame(error)) => return Err(error.into()),
+// Reads once, also after a signal.
+fn receive_some(reader: &mut impl Read, bytes: &mut Vec<u8>) -> io::Result<usize> {
+    let mut piece = [0; PIECE];
+    loop {
+        match reader.read(&mut piece) {
+            Err(error) if error.kind() == ErrorKind::Interrupted => {}
+            result => {
+                let count = result?;
+                bytes.extend_from_slice(&piece[..count]);
+                return Ok(count);
             }
         }
     }
 }
 
-impl<R: Read> Iterator for ReadPackedMessages<R> {
+impl<R: Read> Iterator for ReadMessages<R> {
     type Item = Result<MessageBuf, ReadError>;
 
     fn next(&mut self) -> Option<Self::Item> {
-        if self.is_over {
-            return None;
+        loop {
+            if let Some(item) = self.feed.next() {
+                return Some(item.map_err(ReadError::NotAccepted));
+            }
+            if self.feed.is_over() {
+                return None;
+            }
+            if let Err(error) = self.receive() {
+                if !matches!(error.kind(), ErrorKind::WouldBlock | ErrorKind::TimedOut) {
+                    self.feed.end();
+                }
+                return Some(Err(ReadError::Io(error)));
+            }
         }
-        let read = self.read();
-        self.is_over = is_last(&read);
-        let bytes = read.transpose()?;
-        Some(bytes.and_then(|bytes| MessageBuf::vetted(bytes, self.limits)))
     }
 }
 
-impl<R: Read> FusedIterator for ReadPackedMessages<R> {}
+impl<R: Read> FusedIterator for ReadMessages<R> {}
+
+/// A reader of the bytes of accepted messages alone: bytes in, vetted bytes out. It goes between a connection and what reads
+/// messages from a [`Read`].
+///
+/// The bytes of a message come only after all of it is vetted, and those of a refused message never come. Reading fails from then
+/// on, as it does at a stream that is cut or broken. [`refused`](VettedReader::refused) says more. A time limit of the reader
+/// below ends nothing: no byte is lost.
+///
+/// It holds one message. It asks the reader for no byte after the message.
+///
+/// # Examples
+///
+/// ```
+/// use capvet::{Limits, VettedReader};
+/// use std::io::Read;
+///
+/// let null = [0, 0, 0, 0, 1, 0, 0, 0, 0, 0, 0, 0, 0, 0, 0, 0];
+/// let cycle = [0, 0, 0, 0, 1, 0, 0, 0, 0xfc, 0xff, 0xff, 0xff, 0, 0, 1, 0];
+/// let stream = [null, cycle, null].concat();
+/// let mut reader = VettedReader::new(&stream[..], Limits::DEFAULT);
+/// let mut bytes = Vec::new();
+/// let error = reader.read_to_end(&mut bytes).unwrap_err();
+/// assert_eq!(error.to_string(), "refused DepthLimit at 0:0 pointers 65");
+/// assert_eq!(bytes, null);
+/// assert_eq!(reader.refused().unwrap().offset, 16);
+/// ```
+pub struct VettedReader<R> {
+    messages: ReadMessages<R>,
+    // what is passed on is `message[start..]`
+    message: Vec<u8>,
+    start: usize,
+    end: Option<End>,
+}
+
+// (how many bytes are held, and not the bytes: they may be many)
+impl<R: fmt::Debug> fmt::Debug for VettedReader<R> {
+    fn fmt(&self, f: &mut fmt::Formatter<'_>) -> fmt::Result {
+        f.debug_struct("VettedReader")
+            .field("messages", &self.messages)
+            .field("held", &(self.message.len() - self.start))
+            .field("end", &self.end)
+            .finish()
+    }
+}
+
+// Why nothing more is passed on.
+#[derive(Debug)]
+enum End {
+    Refused(NotAccepted),
+    Failed(ErrorKind),
+}
+
+impl<R: Read> VettedReader<R> {
+    /// Makes a reader of the messages of another one.
+    pub const fn new(reader: R, limits: Limits) -> Self {
+        Self {
+            messages: read_messages(reader, limits),
+            message: Vec::new(),
+            start: 0,
+            end: None,
+        }
+    }
+
+    /// The message that isn't accepted, if there was one.
+    #[must_use]
+    pub const fn refused(&self) -> Option<&NotAccepted> {
+        match &self.end {
+            Some(End::Refused(error)) => Some(error),
+            _ => None,
+        }
+    }
+
+    // Receives the next message. There is none at the end of the stream.
+    fn receive(&mut self) -> io::Result<()> {
+        match &self.end {
+            Some(End::Refused(refused)) => return Err(refused.error.into()),
+            Some(End::Failed(kind)) => return Err((*kind).into()),
+            None => {}
+        }
+        match self.messages.next() {
+            None => Ok(()),
+            Some(Ok(message)) => {
+                (self.message, self.start) = (message.into_bytes(), 0);
+                Ok(())
+            }
+            Some(Err(ReadError::NotAccepted(refused))) => {
+                let error = refused.error.into();
+                self.end = Some(End::Refused(refused));
+                Err(error)
+            }
+            Some(Err(ReadError::Io(error))) => {
+                if self.messages.feed.is_over() {
+                    self.end = Some(End::Failed(error.kind()));
+                }
+                Err(error)
+            }
+        }
+    }
+}
+
+impl<R: Read> Read for VettedReader<R> {
+    fn read(&mut self, out: &mut [u8]) -> io::Result<usize> {
+        if out.is_empty() {
+            return Ok(0);
+        }
+        if self.start == self.message.len() {
+            // (memory of a large message isn't kept)
+            (self.message, self.start) = (Vec::new(), 0);
+            self.receive()?;
+        }
+        let count = (&self.message[self.start..]).read(out)?;
+        self.start += count;
+        Ok(count)
+    }
+}
 
 #[cfg(test)]
 mod tests {
     use super::*;
-    use crate::{messages, pack_message};
+    use crate::{frame_length, messages, pack_message};
     use std::io::Write;
     use std::os::unix::net::UnixStream;
     use std::time::Duration;
@@ -393,11 +322,10 @@ mod tests {
 
     // The messages of a stream, packed one by one.
     fn packed(stream: &[u8]) -> Vec<Vec<u8>> {
-        let limits = Limits::DEFAULT.allow_trailing(true);
         let mut rest = stream;
         let mut texts = Vec::new();
-        while let Ok(length) = frame_length(rest, limits) {
-            texts.push(pack_message(&rest[..length], limits).expect("a frame"));
+        while let Ok(length) = frame_length(rest, Limits::DEFAULT) {
+            texts.push(pack_message(&rest[..length]).expect("a frame"));
             rest = &rest[length..];
         }
         texts
@@ -455,9 +383,31 @@ mod tests {
         }
     }
 
+    // A reader that gives a byte at a time.
+    #[derive(Debug)]
+    struct Slow<'b>(&'b [u8]);
+
+    impl Read for Slow<'_> {
+        fn read(&mut self, out: &mut [u8]) -> io::Result<usize> {
+            let most = out.len().min(1);
+            self.0.read(&mut out[..most])
+        }
+    }
+
+    #[test]
+    fn a_slow_reader_has_the_same_items() {
+        let whole = [STREAM, CYCLE, &STREAM[..100]].concat();
+        let plain = texts(read_messages(&whole[..], Limits::DEFAULT));
+        assert_eq!(texts(read_messages(Slow(&whole), Limits::DEFAULT)), plain);
+        let text = [packed(STREAM).concat(), packed(CYCLE).concat(), vec![7]].concat();
+        let expected = texts(read_packed_messages(&text[..], Limits::DEFAULT));
+        let slow = read_packed_messages(Slow(&text), Limits::DEFAULT);
+        assert_eq!((texts(slow), expected.len()), (expected, 6));
+    }
+
     #[test]
     fn a_message_comes_before_the_rest_of_the_next() {
-        let limit = Some(Duration::from_secs(20));
+        let limit = Some(Duration::from_secs(180));
         let first = &STREAM[..3144];
         let text = packed(STREAM).concat();
         let length = packed(STREAM)[0].len();
@@ -522,21 +472,136 @@ mod tests {
         let mut messages = read_messages(&claim[..], Limits::DEFAULT);
         let cut = messages.next().expect("an item").expect_err("it is cut");
         assert_eq!(cut.to_string(), "Truncated, 67108872 bytes are required");
-        assert!(messages.partial() == claim && messages.bytes.capacity() < 4096);
-        let error = io::Error::from(cut);
+        let refused = not_accepted(cut);
+        assert!(refused.unvetted == claim && refused.unvetted.capacity() < 4096);
+        let error = io::Error::from(refused);
         assert_eq!(error.kind(), io::ErrorKind::UnexpectedEof);
-        let limits = Limits::DEFAULT.message_words(1000);
+        let limits = Limits::DEFAULT.with_message_words(1000);
         let error = read_messages(&claim[..], limits).next().expect("an item");
         assert_eq!(
             error.expect_err("too large").to_string(),
             "TooLarge 8388608"
         );
-        let limits = Limits::DEFAULT.no_table(true);
-        for items in [
-            texts(read_messages(&claim[..], limits)),
-            texts(read_packed_messages(&claim[..], limits)),
+    }
+
+    // The message of an error.
+    fn not_accepted(error: ReadError) -> NotAccepted {
+        match error {
+            ReadError::NotAccepted(error) => error,
+            ReadError::Io(error) => panic!("{error}"),
+        }
+    }
+
+    #[test]
+    fn a_refused_message_has_its_bytes_and_its_place() {
+        let stream = [STREAM, CYCLE, MANY_SEGMENTS, &STREAM[..100]].concat();
+        let parts = [packed(STREAM).concat(), packed(CYCLE).concat()];
+        let text = [&parts.concat()[..], &packed(MANY_SEGMENTS)[0], &[0x10]].concat();
+        for (bytes, offset, end, is_packed) in [
+            (&stream, STREAM.len(), stream.len() - 100, false),
+            (&text, parts[0].len(), text.len() - 1, true),
         ] {
-            assert_eq!(items, [Err("BadLimits".to_string())]);
+            let errors = match is_packed {
+                true => read_packed_messages(&bytes[..], Limits::DEFAULT),
+                false => read_messages(&bytes[..], Limits::DEFAULT),
+            };
+            let errors: Vec<_> = errors.filter_map(Result::err).map(not_accepted).collect();
+            let places: Vec<_> = errors.iter().map(|it| (it.number, it.offset)).collect();
+            assert_eq!(places, [(4, offset as u64), (6, end as u64)]);
+            assert_eq!(errors[0].unvetted, CYCLE);
+            let path = errors[0].path().expect("it names a pointer");
+            assert_eq!(path.to_string(), "/p0".repeat(64));
+            let lines = errors[0].explain().to_string();
+            assert!(lines.starts_with(&format!("  path {path}\n")), "{lines}");
+            let cut = (&errors[1].unvetted[..], errors[1].path());
+            assert_eq!(
+                cut,
+                (if is_packed { &[][..] } else { &STREAM[..100] }, None)
+            );
+            let lines = errors[1].explain().to_string();
+            let expected = if is_packed {
+                "is empty"
+            } else {
+                "ends inside the message"
+            };
+            assert_eq!(lines, format!("  reason the input {expected}\n"));
+        }
+    }
+
+    // Each item is an error that stays, as for a folder that is opened as a file.
+    struct Failing(ErrorKind, usize);
+
+    impl Read for Failing {
+        fn read(&mut self, _: &mut [u8]) -> io::Result<usize> {
+            self.1 += 1;
+            Err(self.0.into())
+        }
+    }
+
+    #[test]
+    fn an_error_that_stays_is_the_last_item() {
+        let folder = std::fs::File::open(env!("CARGO_MANIFEST_DIR")).expect("a folder");
+        assert_eq!(read_messages(folder, Limits::DEFAULT).count(), 1);
+        for (kind, count) in [
+            (ErrorKind::Other, 1),
+            (ErrorKind::ConnectionReset, 1),
+            (ErrorKind::WouldBlock, 10),
+            (ErrorKind::TimedOut, 10),
+        ] {
+            for mut messages in [
+                read_messages(Failing(kind, 0), Limits::DEFAULT),
+                read_packed_messages(Failing(kind, 0), Limits::DEFAULT),
+            ] {
+                assert_eq!(messages.by_ref().take(10).count(), count);
+                assert_eq!(messages.into_inner().1, count);
+            }
+        }
+    }
+
+    #[test]
+    fn bytes_of_accepted_messages_alone_come_through() {
+        let whole = [STREAM, MANY_SEGMENTS].concat();
+        let mut out = Vec::new();
+        let mut reader = VettedReader::new(&whole[..], Limits::DEFAULT);
+        reader.read_to_end(&mut out).expect("all are accepted");
+        assert!(out == whole && reader.refused().is_none());
+        let mut reader = VettedReader::new(Slow(STREAM), Limits::DEFAULT);
+        assert_eq!(reader.read(&mut [0; 8]).expect("a word"), 8);
+        assert!(format!("{reader:?}").contains("held: 3136"));
+        for (stream, text, kind) in [
+            (
+                [STREAM, CYCLE, STREAM].concat(),
+                "refused DepthLimit at 0:0 pointers 65",
+                ErrorKind::InvalidData,
+            ),
+            (
+                [STREAM, &STREAM[..9]].concat(),
+                "Truncated, 3144 bytes are required",
+                ErrorKind::UnexpectedEof,
+            ),
+        ] {
+            let mut reader = VettedReader::new(&stream[..], Limits::DEFAULT);
+            let mut out = Vec::new();
+            for _ in 0..3 {
+                let error = reader.read_to_end(&mut out).expect_err("it is refused");
+                assert_eq!((error.kind(), &error.to_string()[..]), (kind, text));
+                assert_eq!(out, STREAM);
+            }
+            let refused = reader.refused().expect("it is refused");
+            assert_eq!((refused.number, refused.offset), (4, STREAM.len() as u64));
+        }
+    }
+
+    #[test]
+    fn a_reader_that_fails_goes_on_or_not() {
+        for (kind, calls) in [(ErrorKind::WouldBlock, 4), (ErrorKind::Other, 1)] {
+            let mut reader = VettedReader::new(Failing(kind, 0), Limits::DEFAULT);
+            for _ in 0..4 {
+                let error = reader.read(&mut [0; 8]).expect_err("it fails");
+                assert_eq!(error.kind(), kind);
+            }
+            assert_eq!(reader.read(&mut []).expect("nothing is asked for"), 0);
+            assert_eq!(reader.messages.into_inner().1, calls);
         }
     }
 }

@@ -1,10 +1,10 @@
-//! The report of an accepted message.
+//! The numbers of an accepted message, and the places of pointers.
 
 use crate::calls::{length_of, RawReport};
 use core::fmt;
 
-/// The place of a pointer in a message.
-#[derive(Clone, Copy, Debug, PartialEq, Eq, Hash)]
+/// The place of a word in a message. It has no further fields in any later version.
+#[derive(Clone, Copy, Debug, PartialEq, Eq, PartialOrd, Ord, Hash)]
 pub struct Position {
     /// The number of its segment, from 0.
     pub segment: u32,
@@ -28,6 +28,25 @@ impl Position {
     }
 }
 
+/// A pointer that a refusal names.
+#[derive(Clone, Copy, Debug, PartialEq, Eq, Hash)]
+#[non_exhaustive]
+pub struct Pointer {
+    /// Its place.
+    pub position: Position,
+    /// Its number in preorder, from 1. Of [`peek`](crate::peek) it is the number on the path.
+    pub number: u64,
+}
+
+impl Pointer {
+    pub(crate) const fn of(raw: &RawReport) -> Self {
+        Self {
+            position: Position::of(raw),
+            number: raw.pointers,
+        }
+    }
+}
+
 /// The numbers of an accepted message.
 #[derive(Clone, Copy, Debug, PartialEq, Eq, Hash)]
 #[non_exhaustive]
@@ -36,6 +55,8 @@ pub struct Report {
     pub length: usize,
     /// The number of its segments.
     pub segments: u32,
+    /// The words in all segments, which [`Limits::message_words`](crate::Limits::message_words) bounds.
+    pub words: u64,
     /// The words that a full traversal reads. An object that two pointers reach counts twice, landing pads count, and a list
     /// element without bits or words counts as one.
     pub charge: u64,
@@ -50,21 +71,32 @@ pub struct Report {
 }
 
 impl Report {
-    // The report of a call on an accepted message.
+    // The report of a call on an accepted frame.
     pub(crate) fn of(raw: &RawReport) -> Self {
         Self {
             length: length_of(raw),
             segments: raw.segments,
+            words: raw.length / 8 - u64::from(raw.segments) / 2 - 1,
             charge: raw.charge,
             depth: raw.depth,
             pointers: raw.pointers,
             capabilities: raw.capabilities,
-            first_capability: if raw.capabilities == 0 {
-                None
-            } else {
-                Some(Position::of(raw))
-            },
+            first_capability: (raw.capabilities > 0).then(|| Position::of(raw)),
         }
+    }
+
+    /// The traversal limit in words that a reader needs at most to read a strict message so many times: the larger of
+    /// `3 * charge + 2` and `words`, for each time.
+    #[must_use]
+    pub fn reader_words(&self, readings: u32) -> u64 {
+        let once = self.words.max(3 * self.charge + 2);
+        once * u64::from(readings)
+    }
+
+    /// The nesting limit that a reader needs at most for a strict message: `2 * depth + 1`.
+    #[must_use]
+    pub const fn reader_nesting(&self) -> u32 {
+        2 * self.depth + 1
     }
 }
 

@@ -1,12 +1,13 @@
 //! The numbers against those of the header, and the answers against what is known of the samples.
 
 use crate::calls::{
-    raw_limits, Answer, ALLOW_AMPLIFIED, ALLOW_NONSTRICT, ALLOW_TRAILING, EXPLANATION_BOUND,
-    NO_REPORT, NO_TABLE,
+    raw_limits, Answer, Form, ALLOW_AMPLIFIED, ALLOW_NONSTRICT, EXPLANATION_BOUND, FORM_PREFIX,
+    FORM_WORDS, NO_REPORT, OVERLAP_BOUND,
 };
 use crate::{
-    canonical_into, frame_length, is_canonical, messages, vet, vet_exclusive, CanonicalError,
-    ExclusiveError, FrameError, Limits, Position, Reason, VetError,
+    frame_length, is_canonical_words, messages, vet, vet_exclusive, vet_prefix, vet_segments,
+    vet_words, CanonicalError, ExclusiveError, FrameError, Limits, MessageBuf, Pointer, Position,
+    Reason, Report, VetError,
 };
 
 const HEADER: &str = include_str!("../../../include/capvet.h");
@@ -16,6 +17,7 @@ const TELEMETRY: &[u8] = include_bytes!("../../../examples/telemetry.bin");
 const STREAM: &[u8] = include_bytes!("../../../examples/stream-of-four.bin");
 const CONTACTS_COPY: &[u8] = include_bytes!("../../../examples/canonical/contacts.bin");
 const TELEMETRY_COPY: &[u8] = include_bytes!("../../../examples/canonical/telemetry.bin");
+const SHARED: &[u8] = include_bytes!("../../../examples/shared.bin");
 const NULL: [u8; 16] = [0, 0, 0, 0, 1, 0, 0, 0, 0, 0, 0, 0, 0, 0, 0, 0];
 const CYCLE: [u8; 16] = [0, 0, 0, 0, 1, 0, 0, 0, 0xfc, 0xff, 0xff, 0xff, 0, 0, 1, 0];
 
@@ -52,21 +54,19 @@ fn variant(name: &str) -> String {
 }
 
 // The answers of the header that are no reason of a refusal at a pointer.
-const OTHERS: [(&str, Answer); 14] = [
+const OTHERS: [(&str, Answer); 12] = [
     ("NO_MESSAGE", Answer::NO_MESSAGE),
     ("TOO_MANY_SEGMENTS", Answer::TOO_MANY_SEGMENTS),
     ("TOO_LARGE", Answer::TOO_LARGE),
     ("TRUNCATED", Answer::TRUNCATED),
     ("TRAILING", Answer::TRAILING),
     ("BAD_LIMITS", Answer::BAD_LIMITS),
-    ("NO_SEGMENT", Answer(11)),
-    ("BAD_SEGMENT", Answer::BAD_SEGMENT),
+    ("BAD_SEGMENT", Answer(12)),
     ("BUFFER_TOO_SMALL", Answer::BUFFER_TOO_SMALL),
     ("BAD_PATH", Answer::BAD_PATH),
     ("NOT_CANONICAL", Answer::NOT_CANONICAL),
-    ("HAS_CAPABILITY", Answer::HAS_CAPABILITY),
+    ("HAS_CAPABILITY", Answer(17)),
     ("NO_NODE", Answer::NO_NODE),
-    ("MANY_SEGMENTS", Answer::MANY_SEGMENTS),
 ];
 
 #[test]
@@ -77,7 +77,7 @@ fn answers_are_those_of_the_header() {
         .chain(
             Reason::ALL
                 .iter()
-                .map(|(reason, number)| (reason.name().to_owned(), *number)),
+                .map(|reason| (reason.name().to_owned(), reason.code())),
         )
         .collect();
     here.sort_by_key(|(_, number)| *number);
@@ -87,35 +87,31 @@ fn answers_are_those_of_the_header() {
         .collect();
     of_header.sort_by_key(|(_, number)| *number);
     assert_eq!(here, of_header);
-    for (reason, _) in Reason::ALL {
+    for reason in Reason::ALL {
         assert_eq!(format!("{reason:?}"), reason.to_string());
+        assert_eq!(reason.name().parse(), Ok(*reason));
     }
+    let unknown = "Ok".parse::<Reason>().expect_err("it is no reason");
+    assert_eq!(unknown.to_string(), "no such reason");
 }
 
 #[test]
 fn every_other_answer_is_no_acceptance() {
     for number in 1..100 {
-        let error = VetError::of(Answer(number), &NO_REPORT);
-        let known = Reason::ALL.iter().find(|(_, it)| *it == number);
-        match error {
-            VetError::Frame(FrameError::Other(it)) => assert_eq!((it, known), (number, None)),
-            VetError::Frame(_) => assert!(matches!(number, 1..=5 | 8 | 12), "{number}"),
-            VetError::ManySegments { .. } => assert_eq!(number, 23),
-            VetError::Refused(refusal) => match known {
-                Some((reason, _)) => assert_eq!(refusal.reason, *reason),
-                None => assert_eq!(
-                    (refusal.reason, number >= 32),
-                    (Reason::Other(number), true)
-                ),
-            },
-            VetError::Other(it) => assert_eq!((it, known), (number, None)),
+        let error = std::panic::catch_unwind(|| VetError::of(Answer(number), &NO_REPORT));
+        let reason = Reason::ALL.iter().find(|it| it.code() == number);
+        match (error, reason) {
+            (Ok(VetError::Frame(_)), None) => assert!(matches!(number, 1..=5), "{number}"),
+            (Ok(VetError::Refused(refusal)), Some(reason)) => assert_eq!(refusal.reason, *reason),
+            // (no call that vets has these)
+            (error, reason) => assert!(error.is_err() && reason.is_none() && number > 5),
         }
     }
 }
 
 #[test]
 fn limits_are_those_of_the_header() {
-    let raw = raw_limits(&Limits::DEFAULT);
+    let raw = raw_limits(&Limits::DEFAULT, Form::Whole);
     for line in [
         format!(
             "#define CAPVET_MAX_MESSAGE_WORDS UINT64_C({})",
@@ -125,62 +121,109 @@ fn limits_are_those_of_the_header() {
         format!("#define CAPVET_MAX_DEPTH {}", Limits::MAX_DEPTH),
         format!("#define CAPVET_SLACK {}", Limits::SLACK),
         format!("#define CAPVET_EXPLANATION_BOUND {EXPLANATION_BOUND}"),
-        format!("#define CAPVET_ALLOW_TRAILING {ALLOW_TRAILING:#x}u"),
+        format!("#define CAPVET_OVERLAP_BOUND {OVERLAP_BOUND}"),
         format!("#define CAPVET_ALLOW_NONSTRICT {ALLOW_NONSTRICT:#x}u"),
         format!("#define CAPVET_ALLOW_AMPLIFIED {ALLOW_AMPLIFIED:#x}u"),
-        format!("#define CAPVET_NO_TABLE {NO_TABLE:#x}u"),
+        format!("#define CAPVET_FORM_PREFIX {FORM_PREFIX}u"),
+        format!("#define CAPVET_FORM_WORDS {FORM_WORDS}u"),
+        "#define CAPVET_FORM_WHOLE 0u".to_string(),
         format!(
-            "#define CAPVET_LIMITS_INIT {{ {}, {}, {}, {}, {{ {}, {} }} }}",
-            raw.message_words, raw.charge, raw.depth, raw.flags, raw.reserved[0], raw.reserved[1]
+            "#define CAPVET_LIMITS_INIT {{ {}, {}, {}, {}, CAPVET_FORM_WHOLE, {}, {{ 0, 0, 0, 0, 0, 0 }} }}",
+            raw.message_words, raw.charge, raw.depth, raw.flags, raw.padding
         ),
     ] {
         assert!(HEADER.contains(&line), "{line}");
     }
+    assert_eq!((raw.form, raw.reserved), (0, [0; 6]));
     assert_eq!(Limits::default(), Limits::DEFAULT);
 }
 
 #[test]
 fn each_limit_is_passed_on() {
-    let limits = Limits::DEFAULT.message_words(1).charge(2).depth(3);
-    let raw = raw_limits(&limits);
+    let limits = Limits::new(1, 2, 3).expect("these are allowed");
+    let raw = raw_limits(&limits, Form::Whole);
     assert_eq!((raw.message_words, raw.charge, raw.depth), (1, 2, 3));
-    for (limits, flags) in [
-        (limits, 0),
-        (limits.allow_trailing(true), ALLOW_TRAILING),
-        (limits.allow_nonstrict(true), ALLOW_NONSTRICT),
-        (limits.allow_amplified(true), ALLOW_AMPLIFIED),
-        (limits.no_table(true), NO_TABLE),
+    for (limits, form, expected) in [
+        (limits, Form::Whole, (0, 0)),
+        (limits, Form::Prefix, (0, FORM_PREFIX)),
+        (limits, Form::Words, (0, FORM_WORDS)),
+        (
+            limits.with_allow_nonstrict(true),
+            Form::Whole,
+            (ALLOW_NONSTRICT, 0),
+        ),
+        (
+            limits.with_allow_amplified(true),
+            Form::Whole,
+            (ALLOW_AMPLIFIED, 0),
+        ),
     ] {
-        assert_eq!(raw_limits(&limits).flags, flags);
-        let none = limits.allow_trailing(false).allow_nonstrict(false);
-        let none = none.allow_amplified(false).no_table(false);
-        assert_eq!(raw_limits(&none).flags, 0);
+        let raw = raw_limits(&limits, form);
+        assert_eq!((raw.flags, raw.form), expected);
+        let none = limits
+            .with_allow_nonstrict(false)
+            .with_allow_amplified(false);
+        assert_eq!(none, self::limits(1, 2, 3));
+    }
+}
+
+fn limits(message_words: u64, charge: u64, depth: u32) -> Limits {
+    Limits::new(message_words, charge, depth).expect("these are allowed")
+}
+
+#[test]
+fn a_number_above_its_maximum_is_an_error() {
+    let text = |numbers: (u64, u64, u32)| {
+        let error = Limits::new(numbers.0, numbers.1, numbers.2).expect_err("it is above");
+        error.to_string()
+    };
+    let (words, charge) = (Limits::MAX_MESSAGE_WORDS, Limits::MAX_CHARGE);
+    for (numbers, name) in [
+        (
+            (words + 1, charge, 256),
+            "message_words is 268435457, at most 268435456 is allowed",
+        ),
+        (
+            (0, charge + 1, 256),
+            "charge is 268435457, at most 268435456 is allowed",
+        ),
+        ((0, 0, 257), "depth is 257, at most 256 is allowed"),
+    ] {
+        assert_eq!(text(numbers), name);
+    }
+    for call in [
+        || Limits::DEFAULT.with_message_words(u64::MAX),
+        || Limits::DEFAULT.with_charge(u64::MAX),
+        || Limits::DEFAULT.with_depth(u32::MAX),
+    ] {
+        std::panic::catch_unwind(call).expect_err("it is above");
     }
 }
 
 #[test]
 fn the_library_takes_every_limit() {
-    let none = Limits::DEFAULT.message_words(0).charge(0).depth(0);
-    let most = Limits::DEFAULT
-        .message_words(u64::MAX)
-        .charge(u64::MAX)
-        .depth(u32::MAX)
-        .allow_trailing(true)
-        .allow_nonstrict(true)
-        .allow_amplified(true);
+    let none = limits(0, 0, 0);
+    let most = limits(
+        Limits::MAX_MESSAGE_WORDS,
+        Limits::MAX_CHARGE,
+        Limits::MAX_DEPTH,
+    );
+    let most = most.with_allow_nonstrict(true).with_allow_amplified(true);
+    assert_eq!(most, Limits::LARGEST);
     assert_eq!(frame_length(&NULL, most), Ok(16));
-    assert_eq!(vet(&NULL, most).map(|report| report.length), Ok(16));
+    assert!(vet(&NULL, most.with_exclusive(true)).is_ok());
     let large = FrameError::TooLarge { words: 1 };
     assert_eq!(frame_length(&NULL, none), Err(large));
     assert_eq!(vet(&NULL, none), Err(large.into()));
+    assert!(most.exclusive() || most.with_exclusive(true).exclusive());
 }
 
 #[test]
 fn a_frame_is_at_most_as_long_as_its_bound() {
     // 512 segments, the first of which has all words.
-    let limits = Limits::DEFAULT.message_words(3);
+    let limits = Limits::DEFAULT.with_message_words(3);
     let frame = framed(&[&[&[0, 0, 0][..]], &[&[][..]; 511][..]].concat());
-    assert_eq!(frame.len(), limits.frame_bound());
+    assert_eq!(frame.len() as u64, limits.frame_bound());
     assert_eq!(frame_length(&frame, limits), Ok(frame.len()));
 }
 
@@ -203,7 +246,8 @@ fn samples_are_accepted() {
             "accepted charge 234 depth 4 pointers 69 caps 0",
         ),
     ] {
-        let report = vet(bytes, Limits::DEFAULT).expect("the sample is accepted");
+        let message = vet(bytes, Limits::DEFAULT).expect("the sample is accepted");
+        let report = message.report();
         assert_eq!(
             (report.to_string(), report.segments),
             (line.to_owned(), segments)
@@ -212,46 +256,98 @@ fn samples_are_accepted() {
             (report.length, report.first_capability),
             (bytes.len(), None)
         );
+        let parts = message.segments();
+        assert_eq!(parts.len() as u32, segments);
+        let words: usize = parts.map(|it| it.len() / 8).sum();
+        assert_eq!(report.words, words as u64);
         assert_eq!(frame_length(bytes, Limits::DEFAULT), Ok(bytes.len()));
-        assert_eq!(is_canonical(bytes, Limits::DEFAULT), Ok(false));
+        assert!(!message.is_canonical());
+        assert_eq!(message.bytes(), bytes);
+        assert_eq!(MessageBuf::from(message).as_message(), message);
     }
 }
 
 #[test]
+fn a_reader_has_limits_for_each_reading() {
+    let report = *vet(CONTACTS, Limits::DEFAULT).expect("accepted").report();
+    assert_eq!((report.words, report.reader_nesting()), (392, 23));
+    assert_eq!(report.reader_words(1), 3 * 391 + 2);
+    assert_eq!(report.reader_words(u32::MAX), u64::from(u32::MAX) * 1175);
+    // (words that no pointer reaches count too)
+    let long = framed(&[&[0; 100]]);
+    let report = *vet(&long, Limits::DEFAULT).expect("accepted").report();
+    assert_eq!((report.reader_words(2), report.reader_nesting()), (200, 1));
+}
+
+#[test]
 fn samples_use_no_word_twice() {
+    let exclusive = Limits::DEFAULT.with_exclusive(true);
     for bytes in [CONTACTS, MANY_SEGMENTS, TELEMETRY] {
-        let report = vet(bytes, Limits::DEFAULT).expect("the sample is accepted");
+        let message = vet(bytes, Limits::DEFAULT).expect("the sample is accepted");
         let required = match vet_exclusive(bytes, Limits::DEFAULT, &mut []) {
             Err(ExclusiveError::BufferTooSmall { required, .. }) => required,
             other => panic!("marks take a buffer: {other:?}"),
         };
-        assert!(required <= report.length / 512 + 1);
+        assert!(required <= bytes.len() / 512 + 1);
         let mut marks = vec![u64::MAX; required + 1];
         let short = vet_exclusive(bytes, Limits::DEFAULT, &mut marks[..required - 1]);
-        assert_eq!(
-            short,
-            Err(ExclusiveError::BufferTooSmall { required, report })
-        );
+        assert_eq!(short, Err(ExclusiveError::BufferTooSmall { required }));
         assert!(marks.iter().all(|it| *it == u64::MAX));
-        assert_eq!(
-            vet_exclusive(bytes, Limits::DEFAULT, &mut marks),
-            Ok(report)
-        );
-        assert_eq!(marks[required], u64::MAX);
-        assert_eq!(
-            crate::vet_exclusive_alloc(bytes, Limits::DEFAULT),
-            Ok(report)
-        );
+        let found = vet_exclusive(bytes, Limits::DEFAULT, &mut marks);
+        assert_eq!((found, marks[required]), (Ok(message), u64::MAX));
+        assert_eq!(vet(bytes, exclusive), Ok(message));
     }
     for bytes in [&CYCLE[..], &NULL[..9], &[], &[&NULL[..], &[7]].concat()] {
         let error = vet(bytes, Limits::DEFAULT).expect_err("it is refused");
-        let reported = [
-            vet_exclusive(bytes, Limits::DEFAULT, &mut []),
-            vet_exclusive(bytes, Limits::DEFAULT, &mut [u64::MAX]),
-            crate::vet_exclusive_alloc(bytes, Limits::DEFAULT),
-        ];
-        assert_eq!(reported, [Err(ExclusiveError::NotAccepted(error)); 3]);
+        for marks in [&mut [][..], &mut [u64::MAX]] {
+            let found = vet_exclusive(bytes, Limits::DEFAULT, marks);
+            assert_eq!(found, Err(ExclusiveError::NotAccepted(error)));
+        }
+        assert_eq!(vet(bytes, exclusive), Err(error));
     }
+}
+
+#[test]
+fn exclusive_limits_hold_for_each_form() {
+    let limits = Limits::DEFAULT.with_exclusive(true);
+    let overlap = "refused Overlap at 0:2 pointers 3";
+    let more = [SHARED, SHARED, &NULL].concat();
+    let (error, rest) = match vet_prefix(&more, limits) {
+        Err(error) => (error, &more[error.length()..]),
+        other => panic!("{other:?}"),
+    };
+    assert_eq!(
+        (error.to_string(), rest),
+        (overlap.into(), &more[SHARED.len()..])
+    );
+    let texts: Vec<_> = messages(&more, limits)
+        .map(|it| text(it.map(|it| *it.report())))
+        .collect();
+    assert_eq!(texts[..2], [overlap, overlap]);
+    assert!(texts[2].starts_with("accepted"));
+    for found in [
+        vet_words(&SHARED[8..], limits),
+        vet_segments(&[&SHARED[8..]], limits),
+        MessageBuf::vet(SHARED.to_vec(), limits),
+    ] {
+        let refused = found.expect_err("a word is used twice");
+        assert_eq!(refused.to_string(), overlap);
+        let paths = [refused.path(), refused.earlier_path()];
+        assert_eq!(
+            paths.map(|it| it.expect("a path").to_string()),
+            ["/p1", "/p0"]
+        );
+        let lines = refused.explain().to_string();
+        assert!(lines.starts_with(
+            "  path /p1\n  byte 24 of the message\n  pointer 0000000001000000 struct, offset 0"
+        ));
+        assert!(lines.ends_with("\n  first used by /p0 at 0:1\n"));
+    }
+}
+
+// The text of a verdict.
+fn text<T: ToString, E: ToString>(verdict: Result<T, E>) -> String {
+    verdict.map_or_else(|it| it.to_string(), |it| it.to_string())
 }
 
 #[test]
@@ -261,39 +357,63 @@ fn copies_are_those_of_the_samples() {
         (MANY_SEGMENTS, CONTACTS_COPY),
         (TELEMETRY, TELEMETRY_COPY),
     ] {
-        let report = vet(bytes, Limits::DEFAULT).expect("the sample is accepted");
-        assert_eq!(
-            crate::canonical(bytes, Limits::DEFAULT),
-            Ok((copy.to_vec(), report))
-        );
+        let message = vet(bytes, Limits::DEFAULT).expect("the sample is accepted");
+        assert_eq!(message.canonical().as_deref(), Ok(copy));
         let mut out = vec![0xee; copy.len() + 1];
         let required = copy.len();
         for length in 0..copy.len() {
             assert_eq!(
-                canonical_into(bytes, Limits::DEFAULT, &mut out[..length]),
-                Err(CanonicalError::BufferTooSmall { required, report })
+                message.canonical_into(&mut out[..length]),
+                Err(CanonicalError::BufferTooSmall { required })
             );
         }
         assert!(out.iter().all(|it| *it == 0xee));
-        let written = canonical_into(bytes, Limits::DEFAULT, &mut out);
-        assert_eq!(written, Ok((copy.len(), report)));
+        assert_eq!(message.canonical_into(&mut out), Ok(copy.len()));
         assert_eq!(out, [copy, &[0xee]].concat());
+        assert_eq!(is_canonical_words(copy, Limits::DEFAULT), Ok(true));
+        let form = vet_words(copy, Limits::DEFAULT).expect("the form is accepted");
+        assert!(form.as_message().is_canonical());
+        assert_eq!(form.as_message().canonical().as_deref(), Ok(copy));
     }
+}
+
+// The form of a message of shared objects is amplified, and longer than the message.
+#[test]
+fn a_form_is_canonical_within_the_limits_of_its_message() {
+    // A list of 10 pointers, all of them to one struct of 990 words.
+    let pointers = (0..10).map(|at| ((9 - at) << 2) | (990 << 32));
+    let words = [1 | ((6 | (10 << 3)) << 32)].into_iter().chain(pointers);
+    let words: Vec<u64> = words.chain([7; 990]).collect();
+    let limits = limits(1001, 9910, 2).with_allow_amplified(true);
+    let bytes = framed(&[&words]);
+    let message = vet(&bytes, limits).expect("it is accepted");
+    let form = message.canonical().expect("it has no capability");
+    assert_eq!(form.len(), 8 * 9911);
+    assert_eq!(is_canonical_words(&form, limits), Ok(true));
     assert_eq!(
-        crate::canonical(&CYCLE, Limits::DEFAULT),
-        Err(vet(&CYCLE, Limits::DEFAULT)
-            .expect_err("it is refused")
-            .into())
+        is_canonical_words(&form, limits.with_allow_amplified(false)),
+        Ok(true)
     );
+    let error = is_canonical_words(&form, limits.with_message_words(9911).with_charge(9909));
+    assert!(matches!(error, Err(VetError::Refused(it)) if it.reason == Reason::WordLimit));
+    assert_eq!(is_canonical_words(&words_of(&bytes), limits), Ok(false));
+    let most = Limits::DEFAULT.with_charge(Limits::MAX_CHARGE).of_copies();
+    assert_eq!(most.message_words(), Limits::MAX_MESSAGE_WORDS);
+}
+
+// A message of one segment without its table.
+fn words_of(frame: &[u8]) -> Vec<u8> {
+    frame[8..].to_vec()
 }
 
 #[test]
 fn no_text_is_twice_in_a_chain_of_sources() {
     use std::error::Error;
     let error = vet(&CYCLE, Limits::DEFAULT).expect_err("it is refused");
+    let owned = MessageBuf::vet(CYCLE.to_vec(), Limits::DEFAULT).expect_err("it is refused");
     let errors: [Box<dyn Error>; 3] = [
         error.into(),
-        CanonicalError::NotAccepted(error).into(),
+        owned.into(),
         ExclusiveError::NotAccepted(error).into(),
     ];
     for error in errors {
@@ -313,7 +433,8 @@ fn the_first_capability_is_reported() {
         segment: 0,
         word: 2,
     };
-    let report = vet(&message, Limits::DEFAULT).expect("the message is accepted");
+    let message = vet(&message, Limits::DEFAULT).expect("the message is accepted");
+    let report = message.report();
     assert_eq!(
         (
             report.capabilities,
@@ -322,9 +443,27 @@ fn the_first_capability_is_reported() {
         ),
         (1, 3, Some(position))
     );
-    assert_eq!(is_canonical(&message, Limits::DEFAULT), Ok(false));
-    let none = canonical_into(&message, Limits::DEFAULT, &mut []).expect_err("no copy");
+    assert!(!message.is_canonical());
+    let none = message.canonical_into(&mut []).expect_err("no copy");
     assert_eq!(none.to_string(), "HasCapability at 0:2");
+    assert_eq!(message.canonical().map_err(CanonicalError::from), Err(none));
+}
+
+#[test]
+fn a_refusal_names_a_pointer_or_none() {
+    let pointer = |bytes: &[u8]| match vet(bytes, Limits::DEFAULT) {
+        Err(VetError::Refused(refusal)) => refusal.pointer,
+        other => panic!("{other:?}"),
+    };
+    let position = Position {
+        segment: 0,
+        word: 0,
+    };
+    let number = 65;
+    assert_eq!(pointer(&CYCLE), Some(Pointer { position, number }));
+    assert_eq!(pointer(&[0; 8]), None);
+    let many = framed(&[&[&[0][..]], &[&[][..]; 511][..]].concat());
+    assert_eq!(pointer(&many), None);
 }
 
 #[test]
@@ -333,14 +472,17 @@ fn refusals_read_as_in_the_program() {
         |bytes: &[u8], limits: Limits| vet(bytes, limits).expect_err("it is refused").to_string();
     let limits = Limits::DEFAULT;
     assert_eq!(
-        line(CONTACTS, limits.charge(100)),
+        line(CONTACTS, limits.with_charge(100)),
         "refused WordLimit at 0:21 pointers 22"
     );
     assert_eq!(
-        line(CONTACTS, limits.depth(3)),
+        line(CONTACTS, limits.with_depth(3)),
         "refused DepthLimit at 0:7 pointers 3"
     );
-    assert_eq!(line(CONTACTS, limits.message_words(391)), "TooLarge 392");
+    assert_eq!(
+        line(CONTACTS, limits.with_message_words(391)),
+        "TooLarge 392"
+    );
     assert_eq!(
         line(&CYCLE, limits),
         "refused DepthLimit at 0:0 pointers 65"
@@ -376,7 +518,7 @@ fn what_is_not_strict_is_refused_without_its_flag() {
             "refused CapabilityPad at 0:0 pointers 1",
         ),
         (
-            framed(&[&[6 | 1 << 32], &[2 | 2 << 32, 0], &[]]),
+            framed(&[&[6 | (1 << 32)], &[2 | (2 << 32), 0], &[]]),
             "refused EmptySegment at 0:0 pointers 1",
         ),
         (
@@ -389,66 +531,42 @@ fn what_is_not_strict_is_refused_without_its_flag() {
             (error.to_string(), error.length()),
             (line.to_owned(), message.len())
         );
-        let limits = Limits::DEFAULT.allow_nonstrict(true);
-        assert_eq!(vet(&message, limits).map(|it| it.length), Ok(message.len()));
+        let limits = Limits::DEFAULT.with_allow_nonstrict(true);
+        assert!(vet(&message, limits).is_ok());
     }
 }
 
 #[test]
 fn words_without_a_table_are_a_message() {
-    let limits = Limits::DEFAULT.no_table(true);
-    for (frame, words) in [
-        (CONTACTS, &CONTACTS[8..]),
-        (TELEMETRY, &TELEMETRY[8..]),
-        (&NULL, &NULL[8..]),
-    ] {
-        let report = vet(frame, Limits::DEFAULT).expect("the sample is accepted");
-        let length = words.len();
-        assert_eq!(vet(words, limits), Ok(crate::Report { length, ..report }));
+    let limits = Limits::DEFAULT;
+    for frame in [CONTACTS, TELEMETRY, &NULL] {
+        let message = vet_words(&frame[8..], limits).expect("the sample is accepted");
+        assert_eq!(
+            message.as_message(),
+            vet(frame, limits).expect("so is this")
+        );
     }
-    assert_eq!(is_canonical(CONTACTS_COPY, limits), Ok(true));
-    assert_eq!(is_canonical(&CONTACTS[8..], limits), Ok(false));
-    let error = vet(&NULL[8..15], limits).expect_err("it is no word");
-    assert_eq!(error.to_string(), "Truncated, 8 bytes are required");
-    let bad = Err(VetError::Frame(FrameError::BadLimits));
-    assert_eq!(vet(&NULL, limits.allow_trailing(true)), bad);
-    assert_eq!(frame_length(&NULL, limits), Err(FrameError::BadLimits));
-    assert_eq!(crate::vet_segments(&[&NULL], limits), bad);
-    let items: Vec<_> = messages(&NULL, limits).collect();
-    assert_eq!(items, [Err(VetError::Frame(FrameError::BadLimits))]);
-    // (the path is bad too)
-    let node = crate::node(&NULL, "x", limits);
-    assert_eq!(node, Err(VetError::Frame(FrameError::BadLimits).into()));
-    assert_eq!(error.length(), 0);
-}
-
-#[test]
-fn words_without_a_table_have_a_form_and_marks() {
-    let limits = Limits::DEFAULT.no_table(true);
-    let report = vet(&CONTACTS[8..], limits).expect("the sample is accepted");
-    assert_eq!(
-        crate::canonical(&CONTACTS[8..], limits),
-        Ok((CONTACTS_COPY.to_vec(), report))
-    );
-    assert_eq!(
-        crate::vet_exclusive_alloc(&CONTACTS[8..], limits),
-        Ok(report)
-    );
-    for (bytes, text) in [
+    assert_eq!(is_canonical_words(CONTACTS_COPY, limits), Ok(true));
+    assert_eq!(is_canonical_words(&CONTACTS[8..], limits), Ok(false));
+    for (words, text) in [
         (&[][..], "NoMessage"),
         (&NULL[9..], "Truncated, 8 bytes are required"),
+        (&NULL[..15], "Truncated, 16 bytes are required"),
+        (&CYCLE[8..], "refused DepthLimit at 0:0 pointers 65"),
     ] {
-        let error = crate::canonical(bytes, limits).expect_err("it is no word");
+        let error = vet_words(words, limits).expect_err("it isn't accepted");
         assert_eq!(error.to_string(), text);
-        let error = crate::vet_exclusive_alloc(bytes, limits).expect_err("it is no word");
-        assert_eq!(error.to_string(), text);
+        let other = is_canonical_words(words, limits).expect_err("it isn't accepted");
+        assert_eq!(other.to_string(), text);
     }
+    let error = vet_words(&CYCLE[8..], limits).expect_err("it is refused");
+    assert_eq!(error.unvetted, CYCLE);
 }
 
 #[test]
 fn segments_that_are_no_message_are_refused() {
     let line = |segments: &[&[u8]]| {
-        let error = crate::vet_segments(segments, Limits::DEFAULT.message_words(512));
+        let error = vet_segments(segments, Limits::DEFAULT.with_message_words(512));
         error.expect_err("it is refused").to_string()
     };
     let words = [0; 8 * 513];
@@ -473,17 +591,20 @@ fn segments_that_are_no_message_are_refused() {
 #[test]
 fn an_amplified_message_is_refused_without_its_flag() {
     // A list of Void: 4,097 elements and the root word are charged 4,097 words, and 4,098 are one too many.
-    let list = |count: u64| framed(&[&[1 | count << 35]]);
-    let least = vet(&list(4097), Limits::DEFAULT).expect("at the limit");
-    assert_eq!(least.charge, 4097);
-    let error = vet(&list(4098), Limits::DEFAULT).expect_err("above the limit");
+    let list = |count: u64| framed(&[&[1 | (count << 35)]]);
+    let least = list(4097);
+    let least = vet(&least, Limits::DEFAULT).expect("at the limit");
+    assert_eq!(least.report().charge, 4097);
+    let more = list(4098);
+    let error = vet(&more, Limits::DEFAULT).expect_err("above the limit");
     assert_eq!(error.to_string(), "refused WordLimit at 0:0 pointers 1");
-    let limits = Limits::DEFAULT.allow_amplified(true);
-    assert_eq!(vet(&list(4098), limits).map(|it| it.charge), Ok(4098));
+    let limits = Limits::DEFAULT.with_allow_amplified(true);
+    let charge = |report: &Report| report.charge;
+    assert_eq!(vet(&more, limits).map(|it| charge(it.report())), Ok(4098));
 }
 
 #[test]
-fn trailing_bytes_are_refused_without_their_flag() {
+fn trailing_bytes_are_refused_or_returned() {
     for more in [1, 7, 8] {
         let bytes = [&NULL[..], &[7; 8][..more]].concat();
         let error = vet(&bytes, Limits::DEFAULT).expect_err("bytes follow");
@@ -493,10 +614,9 @@ fn trailing_bytes_are_refused_without_their_flag() {
             segments: 1,
         };
         assert_eq!((error, error.length()), (VetError::Frame(trailing), 16));
-        let limits = Limits::DEFAULT.allow_trailing(true);
-        assert_eq!(vet(&bytes, limits).map(|it| it.length), Ok(16));
+        let (message, rest) = vet_prefix(&bytes, Limits::DEFAULT).expect("a message");
+        assert_eq!((message.bytes(), rest), bytes.split_at(16));
         assert_eq!(frame_length(&bytes, Limits::DEFAULT), Ok(16));
-        assert_eq!(is_canonical(&bytes, limits), Err(error));
     }
 }
 
@@ -517,9 +637,9 @@ fn a_stream_is_its_messages() {
         .collect();
     assert_eq!(whole, STREAM);
     let canonical: Vec<_> = messages(STREAM, Limits::DEFAULT)
-        .map(|message| is_canonical(message.expect("each is accepted").bytes(), Limits::DEFAULT))
+        .map(|message| message.expect("each is accepted").is_canonical())
         .collect();
-    assert_eq!(canonical, [Ok(false), Ok(true), Ok(false), Ok(false)]);
+    assert_eq!(canonical, [false, true, false, false]);
 }
 
 #[test]

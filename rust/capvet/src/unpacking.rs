@@ -40,14 +40,16 @@ pub enum UnpackMessageError {
         /// The least length of the next `packed`, which begins with the bytes that are left. It is at most 10.
         required: usize,
     },
+    /// `out` isn't that of the call before: it is shorter than what is written, or begins with a whole frame.
+    OtherBuffer,
     /// The next word is there, and `out` has no space for it.
     #[non_exhaustive]
     BufferTooSmall {
         /// The least length of `out` that gets further: 8, then that of the table, then that of the whole frame. It is a
         /// claim of the sender, at most [`Limits::frame_bound`].
-        required: usize,
+        required: u64,
     },
-    /// The message has more than 512 segments or more words than the limits allow, or the call is wrong.
+    /// The message has more than 512 segments or more words than the limits allow.
     Frame(
         /// The reason.
         FrameError,
@@ -62,7 +64,10 @@ impl UnpackMessageError {
             Answer::TRUNCATED => Self::Truncated {
                 required: raw.input_required as usize,
             },
-            Answer::BUFFER_TOO_SMALL => Self::BufferTooSmall { required },
+            Answer::BUFFER_TOO_SMALL => Self::BufferTooSmall {
+                required: required as u64,
+            },
+            Answer::BAD_LIMITS => Self::OtherBuffer,
             _ => Self::Frame(FrameError::of_frame(answer, raw)),
         }
     }
@@ -87,16 +92,15 @@ impl fmt::Display for UnpackMessageError {
             Self::BufferTooSmall { required } => {
                 write!(f, "BufferTooSmall, {required} bytes are required")
             }
+            Self::OtherBuffer => f.write_str("the buffer isn't that of the call before"),
             Self::Frame(error) => error.fmt(f),
         }
     }
 }
 
-#[cfg(feature = "std")]
-impl std::error::Error for UnpackMessageError {}
-
 /// Unpacks the next message of a packed stream to the start of `out`, and returns the length of its frame in bytes (encoding:
-/// Packing). It takes a piece of the stream at a time, checks no pointer and allocates nothing.
+/// Packing). It takes a piece of the stream at a time, checks no pointer and allocates nothing. `Feed` does it and vets the message,
+/// in memory of its own.
 ///
 /// `packed` has the bytes that are received and not yet consumed. The call drops those that it consumes from its start.
 /// Begin the next piece with the ones that are left. `state` is [`Unpacking::new`] at the start of a stream. Pass the same one
@@ -114,9 +118,8 @@ impl std::error::Error for UnpackMessageError {}
 /// - [`UnpackMessageError::BufferTooSmall`]: call again with a larger `out`.
 /// - [`UnpackMessageError::Frame`] with [`FrameError::TooManySegments`] or [`FrameError::TooLarge`]: the message isn't within
 ///   the limits. A later call returns this again.
-/// - [`UnpackMessageError::Frame`] with [`FrameError::BadLimits`]: the limits have [`Limits::no_table`], or `out` isn't that of
-///   the call before: it is shorter than what is written, or begins with a whole frame. Then nothing is consumed, and `out` and
-///   `state` are unchanged.
+/// - [`UnpackMessageError::OtherBuffer`]: `out` isn't that of the call before. Then nothing is consumed, and `out` and `state` are
+///   unchanged.
 ///
 /// # Examples
 ///
@@ -141,8 +144,6 @@ impl std::error::Error for UnpackMessageError {}
 /// assert_eq!(end, Err(UnpackMessageError::NoMessage));
 /// # Ok::<(), UnpackMessageError>(())
 /// ```
-///
-/// The program `receive` in `examples/rust` does this in a loop over a reader.
 pub fn unpack_message(
     packed: &mut &[u8],
     limits: Limits,
@@ -169,10 +170,10 @@ mod tests {
     fn samples() -> [(Vec<u8>, Vec<u8>); 2] {
         let nulls = [[&[0; 4][..], &[1], &[0; 11]].concat(), vec![0; 80]].concat();
         let frames = [&nulls, MANY, STREAM, &nulls].concat();
-        let packed = crate::pack(&frames).expect("these are whole words");
+        let packed = crate::pack_words(&frames).expect("these are whole words");
         let (stream, by_parts) = (STREAM.to_vec(), crate::messages(STREAM, LIMITS));
         let by_parts = by_parts.map(|it| it.expect("it is accepted").bytes());
-        let by_parts = by_parts.map(|it| crate::pack_message(it, LIMITS).expect("it has a frame"));
+        let by_parts = by_parts.map(|it| crate::pack_message(it).expect("it has a frame"));
         [
             (frames, packed),
             (stream, by_parts.collect::<Vec<_>>().concat()),
@@ -194,8 +195,8 @@ mod tests {
                     frames.push(out[..length].to_vec());
                 }
                 Err(UnpackMessageError::BufferTooSmall { required }) => {
-                    assert!(required > out.len() && required <= LIMITS.frame_bound());
-                    out.resize(required, 0xee);
+                    assert!(required > out.len() as u64 && required <= LIMITS.frame_bound());
+                    out.resize(required as usize, 0xee);
                 }
                 Err(error) if end == stream.len() => return (frames, error),
                 Err(error) => {
@@ -239,7 +240,7 @@ mod tests {
     fn what_is_not_within_the_limits_ends_the_stream() {
         for (head, limits, text) in [
             (&[0x03, 0, 2][..], LIMITS, "TooManySegments 513"),
-            (&[0x10, 9], LIMITS.message_words(8), "TooLarge 9"),
+            (&[0x10, 9], LIMITS.with_message_words(8), "TooLarge 9"),
         ] {
             let (mut state, mut out) = (Unpacking::new(), [0xee; 16]);
             let mut packed = head;
@@ -260,14 +261,10 @@ mod tests {
 
     #[test]
     fn a_call_that_does_not_go_on_changes_nothing() {
-        let bad = UnpackMessageError::Frame(FrameError::BadLimits);
+        let bad = UnpackMessageError::OtherBuffer;
         let (mut state, mut out) = (Unpacking::new(), [0xee; 32]);
         let stream = [0x10, 3, 0xff, 1, 2, 3, 4, 5, 6, 7, 8, 1];
         let mut packed = &stream[..];
-        let no_table = LIMITS.no_table(true);
-        let error = unpack_message(&mut packed, no_table, &mut out, &mut state);
-        assert_eq!((error, packed, out), (Err(bad), &stream[..], [0xee; 32]));
-
         let error = unpack_message(&mut packed, LIMITS, &mut out, &mut state);
         let error = error.expect_err("a word of the run is left");
         assert_eq!(error, UnpackMessageError::Truncated { required: 8 });
@@ -282,6 +279,6 @@ mod tests {
             let error = unpack_message(&mut packed, LIMITS, out, &mut state);
             assert_eq!((error, packed, &state), (Err(bad), &stream[..], &before));
         }
-        assert_eq!(bad.to_string(), "BadLimits");
+        assert_eq!(bad.required(), None);
     }
 }

@@ -26,7 +26,7 @@ mod word_bytes;
 mod words;
 
 pub use crate::cap_spec::CanonFault;
-pub use buffer::canonical_into;
+pub use buffer::{canonical_from, canonical_into};
 #[cfg(feature = "std")]
 pub use bytes::canonical_bytes;
 pub use checked_vetting::{check_with, is_canonical};

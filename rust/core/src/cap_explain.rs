@@ -17,7 +17,8 @@ mod words;
 
 pub use charge::refusal_charge;
 pub use earlier::explain_earlier;
-pub use explaining::{explain, explain_overlap};
+pub use explaining::{explain, explain_difference, explain_overlap, explain_overlap_alone};
 pub use explanation::Explanation;
 pub use numbers::{MessageStart, Numbers};
+pub use sentences::difference_sentence;
 pub use words::frame_words;

@@ -21,7 +21,7 @@ mod writer;
 
 #[cfg(feature = "std")]
 pub use byte_message::ByteMessage;
-pub use byte_message::ByteView;
+pub use byte_message::{words_at, ByteView};
 #[cfg(feature = "std")]
 pub use byte_reader::{read_byte_message, read_into, read_noting};
 pub use fault::{FrameFault, FrontFault, SizeLimit};

@@ -34,5 +34,6 @@ pub use nodes::view::View;
 pub use strictness::strict::Strict;
 pub use strictness::strict_vetting::vet_strict;
 pub use walk::charge_up_to::charge_up_to;
+pub use walk::nulls::nulls;
 pub use walk::turn::{FirstTurn, Stopped, Turn};
 pub use walk::vetting::{vet, vet_with_turn};

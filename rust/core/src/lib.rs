@@ -8,6 +8,8 @@
 #![forbid(unsafe_code)]
 // (constants, imports and parameters that only contracts use, and labels that name loops for their invariants)
 #![allow(dead_code, unused_imports, unused_labels, unused_variables)]
+// (an older clippy doesn't know all lints below)
+#![allow(unknown_lints)]
 // What clippy would write in another way, and why the sources don't.
 #![allow(
     // `?`, closures and these methods add steps to a proof, so a result is matched; other places were a `let .. else`
@@ -37,6 +39,7 @@ compile_error!("a message may have more bytes than a pointer of 16 bits can addr
 
 pub mod cap_calls;
 pub mod cap_canon;
+pub mod cap_difference;
 pub mod cap_explain;
 pub mod cap_frame;
 pub mod cap_pack;

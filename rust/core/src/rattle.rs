@@ -19,7 +19,7 @@ mod vec {
     use super::alloc::{AllocError, Global};
     use core::fmt;
     use core::ops::{Deref, DerefMut};
-    use core::slice::Iter;
+    use core::slice::{Iter, IterMut};
     use std::vec::{IntoIter, Vec as Items};
 
     /// `std::vec::Vec`, of which each allocation may fail.
@@ -144,6 +144,15 @@ mod vec {
 
         fn into_iter(self) -> Iter<'v, T> {
             self.0.iter()
+        }
+    }
+
+    impl<'v, T> IntoIterator for &'v mut Vec<T> {
+        type Item = &'v mut T;
+        type IntoIter = IterMut<'v, T>;
+
+        fn into_iter(self) -> IterMut<'v, T> {
+            self.0.iter_mut()
         }
     }
 

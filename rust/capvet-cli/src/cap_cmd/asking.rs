@@ -4,7 +4,7 @@
 use crate::rattle::String;
 use capvet_core::rattle::Vec;
 
-use crate::cap_cmd::jobs::{Job, Task, Work};
+use crate::cap_cmd::jobs::{Job, JsonReport, Task, Work};
 use crate::cap_run::{Demands, FilterForm, Settings, Step};
 use capvet_core::cap_frame::SizeLimit;
 use capvet_core::cap_vet::Limits;
@@ -26,6 +26,7 @@ pub(crate) enum Command {
     Get,
     Check,
     Canon,
+    Hash,
     Pack,
     Unpack,
 }
@@ -43,8 +44,11 @@ pub(crate) struct Options {
     pub(crate) allow_nonstrict: bool,
     pub(crate) allow_amplified: bool,
     pub(crate) exclusive: bool,
+    pub(crate) canonical: bool,
     pub(crate) stop: bool,
     pub(crate) pack: bool,
+    pub(crate) one: bool,
+    pub(crate) json: bool,
 }
 
 /// The command of this name.
@@ -58,6 +62,7 @@ pub(crate) fn command_of(name: &str) -> Option<Command> {
         "get" => Some(Command::Get),
         "check" => Some(Command::Check),
         "canon" => Some(Command::Canon),
+        "hash" => Some(Command::Hash),
         "pack" => Some(Command::Pack),
         "unpack" => Some(Command::Unpack),
         _ => None,
@@ -87,16 +92,29 @@ fn plain_task(work: Work) -> Task {
         Work::Get { path } => Task::Get { path },
         Work::Check => Task::Check,
         Work::Canon => Task::Canon,
-        Work::Explain { .. } | Work::Filter { .. } => Task::Under { demands, work },
+        Work::Explain { .. } | Work::Filter { .. } | Work::Hash { .. } | Work::Json { .. } => {
+            Task::Under { demands, work }
+        }
     }
 }
 
-/// Work under demands, as a task.
-fn task_under(demands: Demands, work: Work) -> Task {
-    if demands.strict || demands.unamplified {
+/// Work under demands, as a task. `one` says whether the input has to be exactly one message.
+fn task_under(demands: Demands, one: bool, work: Work) -> Task {
+    if one {
+        Task::One { demands, work }
+    } else if demands.strict || demands.unamplified {
         Task::Under { demands, work }
     } else {
         plain_task(work)
+    }
+}
+
+/// The work that writes JSON objects with this report, if that is asked, or else other work.
+fn or_json(json: bool, report: JsonReport, work: Work) -> Work {
+    if json {
+        Work::Json { report }
+    } else {
+        work
     }
 }
 
@@ -104,24 +122,48 @@ fn task_under(demands: Demands, work: Work) -> Task {
 fn task_of(command: Command, options: &Options, path: Vec<Step>) -> Task {
     let demands = demands_of(command, options);
     let exclusive = options.exclusive;
+    let one = options.one;
     match command {
         Command::Segments => Task::Segments,
         Command::Pack => Task::Pack,
         Command::Unpack => Task::Unpack,
-        Command::Vet => task_under(demands, Work::Vet { exclusive }),
-        Command::Explain => task_under(demands, Work::Explain { exclusive }),
+        Command::Vet => {
+            let report = JsonReport::Vet { exclusive };
+            let work = or_json(options.json, report, Work::Vet { exclusive });
+            task_under(demands, one, work)
+        }
+        Command::Explain => {
+            let canonical = options.canonical;
+            let report = JsonReport::Explain {
+                exclusive,
+                canonical,
+            };
+            let explaining = Work::Explain {
+                exclusive,
+                canonical,
+            };
+            let work = or_json(options.json, report, explaining);
+            task_under(demands, one, work)
+        }
         Command::Filter => {
             let form = FilterForm {
                 exclusive,
                 stop: options.stop,
                 pack: options.pack,
             };
-            task_under(demands, Work::Filter { form })
+            task_under(demands, one, Work::Filter { form })
         }
-        Command::Dump => task_under(demands, Work::Dump),
-        Command::Get => task_under(demands, Work::Get { path }),
-        Command::Check => task_under(demands, Work::Check),
-        Command::Canon => task_under(demands, Work::Canon),
+        Command::Dump => task_under(demands, one, Work::Dump),
+        Command::Get => task_under(demands, one, Work::Get { path }),
+        Command::Check => {
+            let work = or_json(options.json, JsonReport::Check, Work::Check);
+            task_under(demands, one, work)
+        }
+        Command::Canon => task_under(demands, one, Work::Canon),
+        Command::Hash => {
+            let work = or_json(options.json, JsonReport::Hash, Work::Hash { alone: one });
+            task_under(demands, one, work)
+        }
     }
 }
 

@@ -38,6 +38,13 @@ pub enum Task {
         /// What is done with it.
         work: Work,
     },
+    /// To do work on the message of an input that has to be exactly one message.
+    One {
+        /// What is demanded of the message beside the limits.
+        demands: Demands,
+        /// What is done with it.
+        work: Work,
+    },
 }
 
 /// What is done with each message that is vetted.
@@ -52,6 +59,8 @@ pub enum Work {
     Explain {
         /// Whether it is refused too where some word is used twice.
         exclusive: bool,
+        /// Whether to report too whether it is canonical, and why not.
+        canonical: bool,
     },
     /// To write its frame if it is accepted. The line of a refused message is written to the output
     /// for faults.
@@ -71,6 +80,37 @@ pub enum Work {
     Check,
     /// To write its canonical copy.
     Canon,
+    /// To show the SHA-256 of its canonical words.
+    Hash {
+        /// Whether the line of a hash is its digits alone.
+        alone: bool,
+    },
+    /// To write a JSON object in the place of the line of another work.
+    Json {
+        /// What the object reports.
+        report: JsonReport,
+    },
+}
+
+/// What a JSON object reports of a message.
+#[derive(Clone, Copy, Debug, PartialEq, Eq)]
+pub enum JsonReport {
+    /// Whether it is accepted.
+    Vet {
+        /// Whether it is refused too where some word is used twice.
+        exclusive: bool,
+    },
+    /// The same, with the path to the pointer of a refusal, and the reason as a sentence.
+    Explain {
+        /// Whether it is refused too where some word is used twice.
+        exclusive: bool,
+        /// Whether it reports too whether the message is canonical, and why not.
+        canonical: bool,
+    },
+    /// Whether it is canonical.
+    Check,
+    /// The SHA-256 of its canonical words.
+    Hash,
 }
 
 /// A task, its limits and its input.
@@ -85,6 +125,16 @@ pub struct Job {
     pub settings: Settings,
     /// The name of the file to read, or `None` for standard input.
     pub file: Option<String>,
+}
+
+/// A job over one file or several.
+#[derive(Debug)]
+pub struct Jobs {
+    /// The job, over the first file.
+    pub job: Job,
+    /// The names of the other files. The job is done over each of them, one after the other. Only
+    /// work that explains or hashes has any.
+    pub more_files: Vec<String>,
 }
 
 /// Why the program's words name no job.

@@ -5,30 +5,36 @@
 use capvet_core::rattle::Vec;
 
 use crate::cap_cmd::asking::NO_DEMANDS;
-use crate::cap_cmd::jobs::{Job, Task, Work};
+use crate::cap_cmd::jobs::{Job, JsonReport, Task, Work};
 use crate::cap_run::{
-    run_canon_with, run_check_with, run_dump_with, run_explain, run_explain_exclusive, run_filter,
-    run_get_with, run_pack_with, run_segments_with, run_unpack_with, run_vet_exclusive_with,
-    run_vet_with, write_copy_fault, write_explained_fault, write_fault, Cause, CopyFault, Demands,
-    ExplainSettings, ExplainedFault, FilterForm, FlushBeforeWaiting, Outcome, Peek, RunFault,
-    Settings, Step,
+    end_single, read_single, run_canon_with, run_check_json, run_check_with, run_digest_with,
+    run_dump_with, run_explain, run_explain_exclusive, run_explain_exclusive_json,
+    run_explain_json, run_filter, run_get_with, run_hash_json, run_hash_with, run_pack_with,
+    run_segments_with, run_unpack_with, run_vet_exclusive_json, run_vet_exclusive_with,
+    run_vet_json, run_vet_with, write_copy_fault, write_explained_fault, write_fault,
+    write_guessed_fault, write_single_fault, Cause, CopyFault, Demands, ExplainSettings,
+    ExplainedFault, FilterForm, FlushBeforeWaiting, Outcome, Peek, RunFault, Settings, SingleFault,
+    Step,
 };
 use capvet_core::cap_canon::CanonFault;
 use capvet_core::cap_frame::FrameFault;
 use capvet_core::cap_pack::{Packer, Unpacker};
 use capvet_core::cap_words::{
-    ByteIn, ByteOut, PlainSink, PlainWords, SourceFault, WordSink, WordSource,
+    ByteIn, ByteOut, PlainSink, PlainWords, SliceIn, SourceFault, WordSink, WordSource,
 };
 use capvet_core::rattle::alloc::Global;
 
 /// The most words that are packed or unpacked.
 const MOST_WORDS: u64 = 1099511627776;
 
+/// The exit status if a device or memory failed.
+const FAILED: u8 = 3;
+
 /// Whether the input of a job is packed.
 fn input_is_packed(job: &Job) -> bool {
     match &job.task {
         Task::Segments | Task::Vet { .. } | Task::Dump | Task::Get { .. } => job.packed,
-        Task::Check | Task::Canon | Task::Under { .. } => job.packed,
+        Task::Check | Task::Canon | Task::Under { .. } | Task::One { .. } => job.packed,
         Task::Pack => false,
         Task::Unpack => true,
     }
@@ -38,6 +44,15 @@ fn input_is_packed(job: &Job) -> bool {
 fn report_run<E: ByteOut>(err: &mut E, answer: &Result<Outcome, RunFault>) -> u8 {
     if let Err(fault) = answer {
         let _ = write_fault(err, fault);
+    }
+    stream_status(answer)
+}
+
+/// Writes the line of the fault that ended a run, if there is one, and what the input looks like if
+/// it is of another format. `packed` says whether it was read as packed. Returns the exit status.
+fn report_guessed<E: ByteOut>(packed: bool, err: &mut E, answer: &Result<Outcome, RunFault>) -> u8 {
+    if let Err(fault) = answer {
+        let _ = write_guessed_fault(err, fault, packed);
     }
     stream_status(answer)
 }
@@ -58,6 +73,61 @@ fn report_transcode<E: ByteOut>(err: &mut E, answer: &Result<u64, CopyFault>) ->
         let _ = write_copy_fault(err, fault);
     }
     words_status(answer)
+}
+
+/// Writes the line for an input that isn't exactly one message, and returns the exit status.
+fn report_single<E: ByteOut>(err: &mut E, fault: &SingleFault) -> u8 {
+    let _ = write_single_fault(err, fault);
+    single_status(fault)
+}
+
+/// Whether work is to explain each refusal.
+fn explains(work: &Work) -> bool {
+    match work {
+        Work::Explain { .. } => true,
+        Work::Json {
+            report: JsonReport::Explain { .. },
+        } => true,
+        _ => false,
+    }
+}
+
+/// Whether work says what an input of another format looks like, without an explanation.
+fn guesses(work: &Work) -> bool {
+    match work {
+        Work::Filter { .. } => true,
+        Work::Hash { .. } => true,
+        Work::Json {
+            report: JsonReport::Hash,
+        } => true,
+        _ => false,
+    }
+}
+
+/// Writes the line of the fault with which reading the first message ended, and the lines that
+/// explain it or say what the input looks like, by the work. `packed` says whether it was read as
+/// packed. Returns the exit status.
+fn report_first<E: ByteOut>(work: &Work, packed: bool, err: &mut E, fault: ExplainedFault) -> u8 {
+    if explains(work) {
+        return report_explained(err, &Err(fault));
+    }
+    if guesses(work) {
+        return report_guessed(packed, err, &Err(fault.fault));
+    }
+    report_run(err, &Err(fault.fault))
+}
+
+/// Sees whether the input ends after its first message, on which work was done with this status.
+/// Writes the line of what is wrong, and returns the exit status of all. If a device or memory failed
+/// before, nothing is read.
+fn end_one<S: WordSource, E: ByteOut>(status: u8, source: &mut S, err: &mut E) -> u8 {
+    if status == FAILED {
+        return FAILED;
+    }
+    match end_single(source) {
+        Ok(()) => status,
+        Err(fault) => report_single(err, &fault),
+    }
 }
 
 /// How a job runs: its limits, whether its input is packed, and when its output is flushed.
@@ -89,12 +159,13 @@ impl Course {
         }
     }
 
-    /// Vets each message, exclusively if that is asked, explains each refusal, and returns the exit
-    /// status.
+    /// Vets each message, exclusively if that is asked, explains each refusal, and if that is asked
+    /// why an accepted message isn't canonical. Returns the exit status.
     fn explain<S: Peek, O: ByteOut, E: ByteOut>(
         &self,
         demands: Demands,
         exclusive: bool,
+        canonical: bool,
         source: &mut S,
         out: &mut O,
         err: &mut E,
@@ -105,6 +176,7 @@ impl Course {
             size: self.settings.size,
             messages: self.settings.messages,
             packed: self.packed,
+            canonical,
         };
         if exclusive {
             let answer = run_explain_exclusive(alloc, source, out, settings, demands, flushing);
@@ -126,7 +198,7 @@ impl Course {
     ) -> u8 {
         let (alloc, settings, flushing) = (self.alloc, &self.settings, &self.flushing);
         let answer = run_filter(alloc, source, out, err, settings, demands, form, flushing);
-        report_run(err, &answer)
+        report_guessed(self.packed, err, &answer)
     }
 
     /// Writes the node at a path of each message, and returns the exit status.
@@ -142,6 +214,90 @@ impl Course {
         let path = path.as_slice();
         let answer = run_get_with(alloc, source, out, settings, demands, path, flushing);
         report_run(err, &answer)
+    }
+
+    /// Writes the hash of each message, which is its digits alone if `alone` says so, and returns the
+    /// exit status.
+    fn hash<S: Peek, O: ByteOut, E: ByteOut>(
+        &self,
+        demands: Demands,
+        alone: bool,
+        source: &mut S,
+        out: &mut O,
+        err: &mut E,
+    ) -> u8 {
+        let (alloc, settings, flushing) = (self.alloc, &self.settings, &self.flushing);
+        if alone {
+            let answer = run_digest_with(alloc, source, out, settings, demands, flushing);
+            report_guessed(self.packed, err, &answer)
+        } else {
+            let answer = run_hash_with(alloc, source, out, settings, demands, flushing);
+            report_guessed(self.packed, err, &answer)
+        }
+    }
+
+    /// Writes the JSON object of each message, which explains a refusal, and returns the exit status.
+    fn explain_json<S: Peek, O: ByteOut, E: ByteOut>(
+        &self,
+        demands: Demands,
+        exclusive: bool,
+        canonical: bool,
+        source: &mut S,
+        out: &mut O,
+        err: &mut E,
+    ) -> u8 {
+        let (alloc, flushing) = (self.alloc, &self.flushing);
+        let settings = &ExplainSettings {
+            limits: self.settings.limits,
+            size: self.settings.size,
+            messages: self.settings.messages,
+            packed: self.packed,
+            canonical,
+        };
+        if exclusive {
+            let answer =
+                run_explain_exclusive_json(alloc, source, out, settings, demands, flushing);
+            report_explained(err, &answer)
+        } else {
+            let answer = run_explain_json(alloc, source, out, settings, demands, flushing);
+            report_explained(err, &answer)
+        }
+    }
+
+    /// Writes the JSON object of each message, and returns the exit status.
+    fn json<S: Peek, O: ByteOut, E: ByteOut>(
+        &self,
+        demands: Demands,
+        report: JsonReport,
+        source: &mut S,
+        out: &mut O,
+        err: &mut E,
+    ) -> u8 {
+        let (alloc, settings, flushing) = (self.alloc, &self.settings, &self.flushing);
+        match report {
+            JsonReport::Vet { exclusive } => {
+                if exclusive {
+                    let answer =
+                        run_vet_exclusive_json(alloc, source, out, settings, demands, flushing);
+                    report_run(err, &answer)
+                } else {
+                    let answer = run_vet_json(alloc, source, out, settings, demands, flushing);
+                    report_run(err, &answer)
+                }
+            }
+            JsonReport::Explain {
+                exclusive,
+                canonical,
+            } => self.explain_json(demands, exclusive, canonical, source, out, err),
+            JsonReport::Check => {
+                let answer = run_check_json(alloc, source, out, settings, demands, flushing);
+                report_run(err, &answer)
+            }
+            JsonReport::Hash => {
+                let answer = run_hash_json(alloc, source, out, settings, demands, flushing);
+                report_guessed(self.packed, err, &answer)
+            }
+        }
     }
 
     /// Writes the canonical copies of messages to an output, and returns the exit status and the
@@ -175,8 +331,12 @@ impl Course {
                 let status = self.vet(demands, *exclusive, source, &mut out, err);
                 (status, out)
             }
-            Work::Explain { exclusive } => {
-                let status = self.explain(demands, *exclusive, source, &mut out, err);
+            Work::Explain {
+                exclusive,
+                canonical,
+            } => {
+                let (exclusive, canonical) = (*exclusive, *canonical);
+                let status = self.explain(demands, exclusive, canonical, source, &mut out, err);
                 (status, out)
             }
             Work::Filter { form } => {
@@ -196,6 +356,43 @@ impl Course {
                 (report_run(err, &answer), out)
             }
             Work::Canon => self.canon(demands, source, out, err),
+            Work::Hash { alone } => {
+                let status = self.hash(demands, *alone, source, &mut out, err);
+                (status, out)
+            }
+            Work::Json { report } => {
+                let status = self.json(demands, *report, source, &mut out, err);
+                (status, out)
+            }
+        }
+    }
+
+    /// Does work on the message of an input that has to be exactly one message. The work is done over
+    /// the frame of this message. Unless a device or memory failed, it is then seen whether the
+    /// input ends.
+    fn one<S: Peek, O: ByteOut, E: ByteOut>(
+        &self,
+        demands: Demands,
+        work: &Work,
+        source: &mut S,
+        out: O,
+        err: &mut E,
+    ) -> (u8, O) {
+        let settings = &ExplainSettings {
+            limits: self.settings.limits,
+            size: self.settings.size,
+            messages: self.settings.messages,
+            packed: self.packed,
+            canonical: false,
+        };
+        match read_single(self.alloc, source, settings) {
+            Ok(Some(frame)) => {
+                let mut words = PlainWords::new(SliceIn::new(frame.bytes()));
+                let (status, out) = self.under(demands, work, &mut words, out, err);
+                (end_one(status, source, err), out)
+            }
+            Ok(None) => (report_single(err, &SingleFault::NoMessage), out),
+            Err(fault) => (report_first(work, self.packed, err, fault), out),
         }
     }
 
@@ -260,6 +457,7 @@ fn run_over<S: Peek, O: ByteOut, E: ByteOut>(
         Task::Pack => course.pack(&mut source, out, err),
         Task::Unpack => course.unpack(&mut source, out, err),
         Task::Under { demands, work } => course.under(*demands, work, &mut source, out, err),
+        Task::One { demands, work } => course.one(*demands, work, &mut source, out, err),
     }
 }
 
@@ -287,13 +485,14 @@ pub fn run_job<I: ByteIn, O: ByteOut, E: ByteOut>(
 ///
 /// # Status
 ///
-/// - 0: every message was accepted, and is canonical if the task is [`Task::Check`]; or all words
-///   were copied.
+/// - 0: every message was accepted, is canonical if the work is to check or to explain that, and has
+///   a hash if the work is to hash; or all words were copied.
 /// - 1, for a message: it was refused, or it doesn't meet the demands of the job, or it has a
-///   capability and a copy is needed. Also if it uses a word twice and the job forbids that, or isn't
-///   canonical and the task is [`Task::Check`].
+///   capability and a copy or a hash is needed. Also if it uses a word twice and the job forbids that,
+///   or isn't canonical and the work is to check or to explain that.
 /// - 1, for the input: it is no stream of messages within the limits, is cut inside a word or a
-///   group, or has more words than are copied.
+///   group, or has more words than are copied. Also if it isn't exactly one message and the task is
+///   [`Task::One`].
 /// - 3: reading or writing failed, the input or the output was closed after an error, or an
 ///   allocation failed.
 pub fn run_job_with<I: ByteIn, O: ByteOut, E: ByteOut>(
@@ -354,6 +553,14 @@ pub(crate) fn explained_status(answer: &Result<Outcome, ExplainedFault>) -> u8 {
     match answer {
         Ok(outcome) => outcome_status(outcome),
         Err(fault) => fault_status(fault.fault.cause),
+    }
+}
+
+/// The exit status of an input that isn't exactly one message.
+fn single_status(fault: &SingleFault) -> u8 {
+    match fault {
+        SingleFault::NoMessage | SingleFault::Trailing { byte: _ } => 1,
+        SingleFault::Run(fault) => fault_status(fault.cause),
     }
 }
 

@@ -2,8 +2,8 @@
 //! The commands, with their options and arguments.
 
 use crate::cap_commands::help::{
-    CANON_NOTES, CHECK_NOTES, DUMP_NOTES, EXPLAIN_NOTES, FILTER_NOTES, GET_NOTES, PACK_NOTES,
-    PROGRAM_NOTES, SEGMENTS_NOTES, UNPACK_NOTES, VERSION, VET_NOTES,
+    CANON_NOTES, CHECK_NOTES, DUMP_NOTES, EXPLAIN_NOTES, FILTER_NOTES, GET_NOTES, HASH_NOTES,
+    PACK_NOTES, PROGRAM_NOTES, SEGMENTS_NOTES, UNPACK_NOTES, VERSION, VET_NOTES,
 };
 use crate::clap::{value_parser, Arg, ArgAction, Command};
 use capvet_core::rattle::alloc::{AllocError, Global};
@@ -41,6 +41,18 @@ const DEFAULT_UNAMPLIFIED_HELP: &str =
 
 const EXCLUSIVE_HELP: &str = "Refuse a message that uses a word twice";
 
+const CANONICAL_HELP: &str = "Say whether each accepted message is canonical, and why not";
+
+const ONE_HELP: &str = "Demand that the input is exactly one message";
+
+const ONE_DIGEST_HELP: &str =
+    "Demand that the input is exactly one message, and print its hash alone";
+
+const JSON_HELP: &str = "Print a JSON object for each message, one a line";
+
+const FILES_HELP: &str =
+    "File to read instead of standard input; of several, each line has its name";
+
 const ALLOW_NONSTRICT_HELP: &str = "Accept a message in a form that common readers reject";
 
 const ALLOW_AMPLIFIED_HELP: &str = "Accept a charge above the words of the message plus 4096";
@@ -61,8 +73,13 @@ enum Part {
     Pack,
     Stop,
     Exclusive,
+    Canonical,
+    One,
+    OneDigest,
+    Json,
     Path,
     File,
+    Files,
 }
 
 /// A command. Help lists its options in this order.
@@ -74,30 +91,19 @@ struct Form {
 }
 
 /// What most commands over messages take.
-const VETTING: [Part; 7] = [
+const VETTING: [Part; 8] = [
     Part::Packed,
     Part::Size,
     Part::Words,
     Part::Depth,
     Part::Strict,
     Part::Unamplified,
-    Part::File,
-];
-
-/// What the commands take that report on each message.
-const REPORTING: [Part; 8] = [
-    Part::Packed,
-    Part::Size,
-    Part::Words,
-    Part::Depth,
-    Part::Strict,
-    Part::Unamplified,
-    Part::Exclusive,
+    Part::One,
     Part::File,
 ];
 
 /// The commands, in the order in which help lists them.
-static FORMS: [Form; 10] = [
+static FORMS: [Form; 11] = [
     Form {
         name: "segments",
         about: "Prints the segments of each message, their sizes in words, and the root pointer",
@@ -108,13 +114,36 @@ static FORMS: [Form; 10] = [
         name: "vet",
         about: "Checks that each message is safe to traverse",
         notes: VET_NOTES,
-        parts: &REPORTING,
+        parts: &[
+            Part::Packed,
+            Part::Size,
+            Part::Words,
+            Part::Depth,
+            Part::Strict,
+            Part::Unamplified,
+            Part::Exclusive,
+            Part::One,
+            Part::Json,
+            Part::File,
+        ],
     },
     Form {
         name: "explain",
         about: "Checks as 'vet' does, and explains each refusal",
         notes: EXPLAIN_NOTES,
-        parts: &REPORTING,
+        parts: &[
+            Part::Packed,
+            Part::Size,
+            Part::Words,
+            Part::Depth,
+            Part::Strict,
+            Part::Unamplified,
+            Part::Exclusive,
+            Part::Canonical,
+            Part::One,
+            Part::Json,
+            Part::Files,
+        ],
     },
     Form {
         name: "filter",
@@ -132,6 +161,7 @@ static FORMS: [Form; 10] = [
             Part::AllowAmplified,
             Part::Pack,
             Part::Stop,
+            Part::One,
             Part::File,
         ],
     },
@@ -152,6 +182,7 @@ static FORMS: [Form; 10] = [
             Part::Depth,
             Part::Strict,
             Part::Unamplified,
+            Part::One,
             Part::Path,
             Part::File,
         ],
@@ -160,13 +191,39 @@ static FORMS: [Form; 10] = [
         name: "check",
         about: "Checks that each message is canonical",
         notes: CHECK_NOTES,
-        parts: &VETTING,
+        parts: &[
+            Part::Packed,
+            Part::Size,
+            Part::Words,
+            Part::Depth,
+            Part::Strict,
+            Part::Unamplified,
+            Part::One,
+            Part::Json,
+            Part::File,
+        ],
     },
     Form {
         name: "canon",
         about: "Writes the canonical copy of each message",
         notes: CANON_NOTES,
         parts: &VETTING,
+    },
+    Form {
+        name: "hash",
+        about: "Prints the SHA-256 of the content of each message",
+        notes: HASH_NOTES,
+        parts: &[
+            Part::Packed,
+            Part::Size,
+            Part::Words,
+            Part::Depth,
+            Part::Strict,
+            Part::Unamplified,
+            Part::OneDigest,
+            Part::Json,
+            Part::Files,
+        ],
     },
     Form {
         name: "pack",
@@ -230,6 +287,10 @@ fn argument<'a>(alloc: Global, part: Part) -> Result<Arg<'a>, AllocError> {
         Part::Pack => flag(alloc, "pack", "Pack the output"),
         Part::Stop => flag(alloc, "stop", "End the run after the first refused message"),
         Part::Exclusive => flag(alloc, "exclusive", EXCLUSIVE_HELP),
+        Part::Canonical => flag(alloc, "canonical", CANONICAL_HELP),
+        Part::One => flag(alloc, "one", ONE_HELP),
+        Part::OneDigest => flag(alloc, "one", ONE_DIGEST_HELP),
+        Part::Json => flag(alloc, "json", JSON_HELP),
         Part::Path => Arg::new(alloc, "path")
             .value_name("PATH")
             .help("Path of the node, such as /p0/i3")
@@ -237,6 +298,10 @@ fn argument<'a>(alloc: Global, part: Part) -> Result<Arg<'a>, AllocError> {
         Part::File => Arg::new(alloc, "file")
             .value_name("FILE")
             .help("File to read instead of standard input"),
+        Part::Files => Arg::new(alloc, "file")
+            .value_name("FILE")
+            .help(FILES_HELP)
+            .action(ArgAction::Append),
     })
 }
 

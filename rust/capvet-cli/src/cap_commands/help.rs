@@ -2,18 +2,20 @@
 //! The texts of help.
 
 /// The version that `--version` prints. `-dev` says that it isn't released.
-pub(crate) const VERSION: &str = "1.1.0-dev";
+pub(crate) const VERSION: &str = "2.0.0-dev";
 
 /// The help of the program, after the list of its commands.
 pub(crate) const PROGRAM_NOTES: &str = "\
 The input is a stream of framed messages. A framed message is a table with the sizes of its
 segments, followed by the segments in words of 8 bytes. Without FILE a command reads standard input.
+For many files, CSV, JSON, and trees with texts, the package for Python has 'python -m capvet'.
 
 Exit status:
   0  every message was accepted, and is canonical for 'check'; or every word was copied;
      or the input is empty
-  1  a message was refused, is not canonical for 'check' or has a capability for 'canon';
-     or the input is cut short, or is not a stream of messages within the limits
+  1  a message was refused, is not canonical for 'check' or has a capability for 'canon' or 'hash';
+     or the input is cut short, or is not a stream of messages within the limits, or not one
+     message with '--one'
   2  the command line is wrong
   3  a file does not open, reading or writing failed, or memory ran out
 
@@ -60,10 +62,14 @@ that the pointer leads into, with its length. Then come what is exceeded, if som
 reason as a sentence. For Overlap a last line, 'first used by', names the earlier pointer that uses
 the same word, if there is one. If the input breaks off inside a message, or a message is too large,
 standard error has the line of this fault. Lines after it say where the message begins, what its
-table says, and the reason. The options are those of 'vet'.
+table says, and the reason. The options are those of 'vet', and --canonical.
 
 An accepted message that is not strict or is amplified has a line that 'filter', the guard and the
 libraries refuse it, and then the same lines. With --strict and --unamplified, it is refused here.
+
+With --canonical an accepted message has the line of 'check' after all this. If it is not canonical,
+the line has the first reason and the place of the pointer: the first one, in preorder, that is not
+as in the canonical copy. The same lines follow, and the status is that of 'check'.
 
 'pointers N' counts the pointers that were looked at, the named one included. In a path, pN is
 pointer N and iN is element N, both counted from 0. A place is SEGMENT:WORD, both counted from 0,
@@ -137,11 +143,23 @@ Example:
 pub(crate) const CANON_NOTES: &str = "\
 A copy is a message of one segment; its table is the first 8 bytes. Two messages have equal copies
 exactly if they have the same content, apart from zeros and null pointers at the end of structs. The
-command ends at the first message that is refused or has a capability.
+command ends at the first message that is refused or has a capability. To hash copies, use 'hash'.
 
 Example:
-  $ capvet canon examples/contacts.bin | tail -c +9 | sha256sum
-  da5b2d724a838dca43e56e40db89de68bba3d3772cd838de0fa7e9029481403e  -";
+  $ capvet canon examples/contacts-many-segments.bin | capvet segments | head -n 1
+  message 0: segments 1 words 389";
+
+/// The help of `hash`, after the list of its options.
+pub(crate) const HASH_NOTES: &str = "\
+The hash is that of the bytes which 'canon' writes after the table of the copy, as 64 digits. So two
+messages with the same content have the same hash, apart from zeros and null pointers at the end of
+structs. A message with a capability has no copy, and the line has the place of its first one. For
+a refused message it prints the line of 'vet'. A program should compare hashes only if the exit
+status is 0. With --one the line of a hash is the 64 digits alone.
+
+Example:
+  $ capvet hash examples/contacts.bin
+  message 0: sha256 da5b2d724a838dca43e56e40db89de68bba3d3772cd838de0fa7e9029481403e";
 
 /// The help of `pack`, after the list of its options.
 pub(crate) const PACK_NOTES: &str = "\

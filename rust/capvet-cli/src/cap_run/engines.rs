@@ -3,16 +3,23 @@
 //! for each. The others copy the words of a source.
 
 pub mod canon;
+pub(crate) mod canonical_object;
 pub mod check;
+pub(crate) mod differing;
 pub mod dump;
 pub mod exclusive;
 pub mod explain;
+pub mod explained;
 pub(crate) mod explaining;
 pub mod filter;
 pub mod get;
+pub mod hash;
+pub mod json;
 pub(crate) mod passing;
 pub mod segments;
+pub(crate) mod sentence;
 pub(crate) mod sifting;
+pub mod single;
 pub(crate) mod stream;
 pub mod transcode;
 pub mod vet;

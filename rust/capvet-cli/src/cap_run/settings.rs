@@ -15,8 +15,8 @@ pub struct Settings {
     pub messages: u32,
 }
 
-/// The settings of an engine that explains: the limits of [`Settings`], and what is known of the
-/// input.
+/// The settings of an engine that explains: the limits of [`Settings`], what is known of the input,
+/// and what is asked.
 #[derive(Clone, Copy, Debug, PartialEq, Eq)]
 pub struct ExplainSettings {
     /// The limits of a walk over a message.
@@ -28,6 +28,8 @@ pub struct ExplainSettings {
     /// Whether the input is packed, so that the source unpacks it. Where the engine names a byte of
     /// the input, it says so.
     pub packed: bool,
+    /// Whether to write of an accepted message whether it is canonical, and why not.
+    pub canonical: bool,
 }
 
 /// The form of a run of [`run_filter`](crate::run_filter). With all of them false it lets a message
@@ -50,7 +52,9 @@ pub struct Outcome {
     pub messages: u32,
     /// How many of them were refused.
     pub refused: u32,
-    /// How many of them were accepted and aren't canonical. Only [`run_check`](crate::run_check)
-    /// looks at that; for the other engines it is 0.
+    /// How many of them were accepted and aren't canonical. [`run_check`](crate::run_check) looks
+    /// at that, and [`run_explain`](crate::run_explain) if it is asked to.
+    /// [`run_hash`](crate::run_hash) counts those with a capability, which have no canonical copy.
+    /// For the other engines it is 0.
     pub noncanonical: u32,
 }

@@ -3,6 +3,7 @@
 
 use crate::cap_text::fault::{Cause, ExplainedFault, StreamBreak};
 use crate::cap_text::faults::{fault_text, TEXT};
+use crate::cap_text::guess::{break_guess, push_guess_line, GUESS};
 use crate::cap_text::page::{write_bytes, Page, CAPACITY, DIGITS};
 use capvet_core::cap_frame::{FrameFault, TableSums};
 use capvet_core::cap_words::{ByteOut, OutFault};
@@ -164,10 +165,16 @@ fn push_break_lines(page: &mut Page, fault: FrameFault, at: &StreamBreak) {
     }
 }
 
-/// Appends the lines by why an engine ended.
-fn push_cause_lines(page: &mut Page, cause: Cause, at: &StreamBreak) {
+/// Appends the lines on a message that can't be read, and the line of a guess.
+fn push_guessed_lines(page: &mut Page, message: u32, fault: FrameFault, at: &StreamBreak) {
+    push_break_lines(page, fault, at);
+    push_guess_line(page, break_guess(message, fault, at));
+}
+
+/// Appends the lines by why an engine ended at a message.
+fn push_cause_lines(page: &mut Page, message: u32, cause: Cause, at: &StreamBreak) {
     match cause {
-        Cause::Frame(fault) => push_break_lines(page, fault, at),
+        Cause::Frame(fault) => push_guessed_lines(page, message, fault, at),
         Cause::TooManyMessages => {}
         Cause::Output(_) => {}
         Cause::Refused(_) => {}
@@ -180,13 +187,13 @@ fn push_cause_lines(page: &mut Page, cause: Cause, at: &StreamBreak) {
 /// The line of a fault, and the lines that explain it.
 fn explained_text(fault: &ExplainedFault) -> Page {
     let mut page = fault_text(&fault.fault);
-    push_cause_lines(&mut page, fault.fault.cause, &fault.at);
+    push_cause_lines(&mut page, fault.fault.message, fault.fault.cause, &fault.at);
     page
 }
 
 /// Writes the line of an error that ended a run, as [`write_fault`](crate::write_fault) does, and
-/// after it the lines that explain why the stream breaks off (docs/output.md, explain). Allocates
-/// nothing.
+/// after it the lines that explain why the stream breaks off (docs/output.md, explain). If the input
+/// looks like one of another format, the last line says which, as a guess. Allocates nothing.
 ///
 /// # Errors
 ///

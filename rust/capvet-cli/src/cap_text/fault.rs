@@ -37,8 +37,22 @@ pub enum Cause {
     /// `run_canon_with` end there.
     Canon(CanonFault),
     /// The message was accepted, and the allocation of the marks for its words failed. Only
-    /// `run_vet_exclusive`, `run_vet_exclusive_with` and an exclusive `run_filter` mark words.
+    /// `run_vet_exclusive`, `run_vet_exclusive_with` and an exclusive `run_filter` mark words. Or it
+    /// was the allocation of the copy that `run_hash`, `run_hash_with` and `run_digest_with` make. Or
+    /// the message was read, and it was the allocation of the frame that `read_single` gives.
     Memory,
+}
+
+/// Why an input isn't exactly one message.
+#[derive(Clone, Copy, Debug, PartialEq, Eq)]
+pub enum SingleFault {
+    /// It has no message.
+    NoMessage,
+    /// It goes on after the first message. `byte` is the position in the input after that message.
+    /// The bytes of a packed input are counted packed.
+    Trailing { byte: u64 },
+    /// Reading failed, so that it isn't known whether the input goes on.
+    Run(RunFault),
 }
 
 /// What is known of a message at which a stream breaks off, beside the fault.

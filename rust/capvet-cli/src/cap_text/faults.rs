@@ -1,7 +1,7 @@
 // crates/cap_text/src/faults.rt without its contracts, by tools/erase: that text is proved, this one is only tested.
 //! The lines of faults.
 
-use crate::cap_text::fault::{Cause, CopyFault, RunFault};
+use crate::cap_text::fault::{Cause, CopyFault, RunFault, SingleFault};
 use crate::cap_text::page::{write_bytes, Page, CAPACITY, NUMBER};
 use crate::cap_text::verdict::{name_of, push_place, push_refused, refused_for, FAULT};
 use capvet_core::cap_frame::FrameFault;
@@ -87,6 +87,39 @@ pub(crate) fn fault_text(fault: &RunFault) -> Page {
 /// - [`OutFault::Spent`]: an earlier error had closed the output. It took nothing.
 pub fn write_fault<E: ByteOut>(err: &mut E, fault: &RunFault) -> Result<(), OutFault> {
     write_bytes(err, fault_text(fault).text())
+}
+
+/// The line for an input without a message.
+fn no_message_text() -> Page {
+    let mut page = Page::new();
+    page.push_text(b"capvet: no message\n");
+    page
+}
+
+/// The line for an input that goes on after its first message.
+fn trailing_text(byte: u64) -> Page {
+    let mut page = Page::new();
+    page.push_named(b"capvet: message 1: Trailing at byte ", byte);
+    page.push_text(b"\n");
+    page
+}
+
+/// Writes the line for an input that isn't exactly one message (docs/output.md, Standard error).
+/// Allocates nothing.
+///
+/// # Errors
+///
+/// The error of the output, which took a prefix of the line.
+///
+/// - [`OutFault::Device`]: the device failed. After it every write with bytes returns `Spent`.
+/// - [`OutFault::Memory`]: an allocation of the output failed. A later write may succeed.
+/// - [`OutFault::Spent`]: an earlier error had closed the output. It took nothing.
+pub fn write_single_fault<E: ByteOut>(err: &mut E, fault: &SingleFault) -> Result<(), OutFault> {
+    match fault {
+        SingleFault::NoMessage => write_bytes(err, no_message_text().text()),
+        SingleFault::Trailing { byte } => write_bytes(err, trailing_text(*byte).text()),
+        SingleFault::Run(fault) => write_fault(err, fault),
+    }
 }
 
 /// Appends the text for a source that gave no word.

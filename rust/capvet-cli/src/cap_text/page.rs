@@ -17,6 +17,9 @@ pub(crate) const DIGITS: usize = 20;
 /// The space for the number of a message, with the text around it.
 pub(crate) const NUMBER: usize = 30;
 
+/// How many bytes a hash has: 256 bits.
+pub(crate) const HASH: usize = 32;
+
 /// Lines that aren't written yet, in a buffer of 4096 bytes. A caller keeps one page for many texts.
 /// Clearing it leaves the old bytes in the buffer, so that it costs nothing.
 pub struct Page {
@@ -99,7 +102,16 @@ impl Page {
     #[inline]
     pub(crate) fn push_hex(&mut self, word: u64) {
         let end = self.len + 16;
-        match hex::encode_to_slice(bytes_of(word), &mut self.bytes[self.len..end]) {
+        match crate::rattle::hex::encode_to_slice(bytes_of(word), &mut self.bytes[self.len..end]) {
+            Ok(()) => self.len = end,
+            Err(_) => unreachable!(),
+        }
+    }
+
+    /// Appends the two hexadecimal digits of each byte of a hash.
+    pub(crate) fn push_hash(&mut self, hash: &[u8; HASH]) {
+        let end = self.len + 2 * HASH;
+        match crate::rattle::hex::encode_to_slice(hash, &mut self.bytes[self.len..end]) {
             Ok(()) => self.len = end,
             Err(_) => unreachable!(),
         }

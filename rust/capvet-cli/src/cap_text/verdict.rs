@@ -11,7 +11,7 @@ use capvet_core::cap_words::{ByteOut, OutFault};
 const REPORT: usize = 119;
 
 /// The most bytes of a reason's name.
-const NAME: usize = 16;
+pub(crate) const NAME: usize = 16;
 
 /// The space for the place of a pointer.
 const PLACE: usize = 45;

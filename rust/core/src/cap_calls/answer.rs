@@ -21,15 +21,13 @@ pub enum Answer {
     Truncated = 4,
     /// The bytes are a message and more bytes, which the call doesn't allow.
     Trailing = 5,
-    /// A limit is above its maximum, a reserved field isn't 0, or a flag is unknown to this call.
-    /// Or the flags 1 and 8 are set together. Or no call leaves this state of an unpacking.
+    /// A limit is above its maximum, a reserved field isn't 0, or a flag or the form is unknown to
+    /// this call. Or no call leaves this state of an unpacking.
     BadLimits = 8,
     /// The output buffer is too small.
     BufferTooSmall = 9,
     /// The text isn't a path.
     BadPath = 10,
-    /// The message has no segment of this number.
-    NoSegment = 11,
     /// The length of a segment is no multiple of 8.
     BadSegment = 12,
     /// The message is accepted, and isn't its own canonical copy.

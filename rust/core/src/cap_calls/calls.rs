@@ -2,16 +2,18 @@
 //! The calls, a file each.
 
 pub(crate) mod canonical;
+pub(crate) mod check_canonical;
 pub(crate) mod earlier_pointer;
 pub(crate) mod explain;
+pub(crate) mod explain_overlap;
+pub(crate) mod first_difference;
 pub(crate) mod frame;
 pub(crate) mod get;
 pub(crate) mod get_range;
-pub(crate) mod is_canonical;
 pub(crate) mod pack;
 pub(crate) mod pack_message;
 pub(crate) mod pointer_path;
-pub(crate) mod segment_at;
+pub(crate) mod segments;
 pub(crate) mod unpack;
 pub(crate) mod unpack_message;
 pub(crate) mod version;

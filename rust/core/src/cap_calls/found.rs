@@ -3,6 +3,7 @@
 
 use crate::cap_calls::answer::Answer;
 use crate::cap_calls::front::NoFrame;
+use crate::cap_calls::limits::CallLimits;
 use crate::cap_calls::report::CallReport;
 use crate::cap_frame::Framed;
 use crate::cap_spec::StrictRefusal;
@@ -55,17 +56,27 @@ impl Found {
     }
 
     // The same with the extent of the frame.
-    pub(crate) fn framed(self, framed: &Framed<'_>) -> Found {
-        self.extent(framed.length(), framed.count())
+    #[inline]
+    pub(crate) fn framed(self, framed: &Framed<'_>, limits: &CallLimits) -> Found {
+        let words = framed.words();
+        let limit = limits.charge_limit(words);
+        self.extent(framed.length(), framed.count(), words, limit)
     }
 
-    // The same with the length of the input in bytes, and how many segments it has.
+    // The same with the length of the input in bytes, its segments and their words. A charge was above
+    // this limit.
     #[inline(always)]
-    pub(crate) fn extent(self, bytes: usize, segments: u32) -> Found {
+    pub(crate) fn extent(self, bytes: usize, segments: u32, words: u64, limit: u64) -> Found {
+        let detail = match self.answer {
+            Answer::WordLimit => limit,
+            _ => self.report.detail,
+        };
         Found {
             report: CallReport {
                 length: bytes as u64,
+                detail,
                 segments,
+                words,
                 ..self.report
             },
             ..self

@@ -8,7 +8,7 @@ use crate::cap_vet::Limits;
 /// Why there is no frame to report.
 #[derive(Clone, Copy, Debug, PartialEq, Eq)]
 pub enum NoFrame {
-    /// A limit is above its maximum, a flag is unknown, or a reserved field isn't 0.
+    /// A limit is above its maximum, a flag or the form is unknown, or a reserved field isn't 0.
     BadLimits,
     /// There are no bytes.
     NoMessage,

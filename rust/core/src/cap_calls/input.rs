@@ -10,8 +10,8 @@ use crate::cap_calls::report::CallReport;
 use crate::cap_frame::{ByteView, FrontFault, Segments};
 use crate::cap_vet::Limits;
 
-/// What a call finds of its input: of the message that bytes start with, or with the flag 8 of the
-/// one segment whose words they are. Without that flag, no bytes may follow the message if they
+/// What a call finds of its input: of the message that bytes start with, or by their form of the
+/// one segment whose words they are. Without that form, no bytes may follow the message if they
 /// have to be the message as a `whole`. The report is written, and the answer and the count are
 /// returned.
 // The report is written in each branch, since a small message would pay for a copy of it.
@@ -40,9 +40,12 @@ pub(crate) fn over_input<C: Call>(
 fn over_words<C: Call>(call: &C, bytes: &[u8], limits: &CallLimits, out: &mut [C::Item]) -> Found {
     let mut size = [0];
     match whole_segment(bytes, limits, &mut size) {
-        Ok((view, walk)) => call
-            .on(&view, (bytes.len() / 8) as u64, walk, limits.demands(), out)
-            .extent(bytes.len(), 1),
+        Ok((view, walk)) => {
+            let words = (bytes.len() / 8) as u64;
+            let limit = limits.charge_limit(words);
+            call.on(&view, words, walk, limits.demands(), out)
+                .extent(bytes.len(), 1, words, limit)
+        }
         Err(cause) => Found::without(cause),
     }
 }

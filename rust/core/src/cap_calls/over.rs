@@ -50,9 +50,9 @@ pub(crate) fn over<C: Call>(
         Ok((framed, walk)) => {
             let more = bytes_after(whole, bytes, &framed);
             if more > 0 {
-                return Found::trailing(more as u64).framed(&framed);
+                return Found::trailing(more as u64).framed(&framed, limits);
             }
-            over_framed(call, &framed, walk, limits.demands(), out).framed(&framed)
+            over_framed(call, &framed, walk, limits.demands(), out).framed(&framed, limits)
         }
         Err(cause) => Found::without(cause),
     }

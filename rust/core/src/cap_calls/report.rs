@@ -1,7 +1,9 @@
 // crates/cap_calls/src/report.rt without its contracts, by tools/erase: that text is proved, this one is only tested.
 //! What a call reports beside its answer.
 
+use crate::cap_calls::difference_number::difference_number;
 use crate::cap_calls::front::NoFrame;
+use crate::cap_difference::Difference;
 use crate::cap_frame::FrontFault;
 use crate::cap_spec::StrictRefusal;
 use crate::cap_vet::Report;
@@ -15,12 +17,13 @@ pub struct CallReport {
     pub length: u64,
     /// Of bytes that end before the frame does: how many bytes the input needs at least.
     pub input_required: u64,
-    /// How many segments, words or trailing bytes the answer is about.
+    /// How many segments, words or trailing bytes the answer is about. Of a charge above the limit:
+    /// that limit. Of a first difference: the number of its reason.
     pub detail: u64,
     /// Of an accepted message: the charge of all followings, in words.
     pub charge: u64,
     /// Of an accepted message its pointer words, null ones too. Of a refused one those that were
-    /// checked.
+    /// checked, and of a first difference those up to it.
     pub pointers: u64,
     /// Of an accepted message: its capabilities.
     pub capabilities: u64,
@@ -28,12 +31,15 @@ pub struct CallReport {
     pub depth: u32,
     /// How many segments the message has, if there is a frame.
     pub segments: u32,
-    /// The segment of the pointer that is named: that of the refusal, or of the first capability.
+    /// The segment of the pointer that is named: that of the refusal, of the first difference, or of the
+    /// first capability.
     pub segment: u32,
     /// That pointer's word in its segment.
     pub word: u32,
+    /// How many words the segments have together, if there is a frame.
+    pub words: u64,
     /// They are 0.
-    pub reserved: [u64; 4],
+    pub reserved: [u64; 6],
 }
 
 impl CallReport {
@@ -50,7 +56,8 @@ impl CallReport {
             segments: 0,
             segment: 0,
             word: 0,
-            reserved: [0; 4],
+            words: 0,
+            reserved: [0; 6],
         }
     }
 
@@ -113,6 +120,17 @@ impl CallReport {
             segment,
             word,
             ..CallReport::none()
+        }
+    }
+
+    // Of a message that is accepted and isn't canonical, apart from its frame.
+    pub(crate) fn of_difference(difference: Difference, report: Report) -> CallReport {
+        CallReport {
+            detail: difference_number(difference.reason),
+            pointers: difference.pointers,
+            segment: difference.segment,
+            word: difference.word,
+            ..CallReport::of_accepted(report)
         }
     }
 }

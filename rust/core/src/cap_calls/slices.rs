@@ -79,7 +79,9 @@ impl<'b> Segments for SliceMessage<'b> {
 
     #[inline]
     fn word(&self, s: u32, w: u32) -> u64 {
-        LittleEndian::read_u64(&self.slices[s as usize][8 * w as usize..])
+        let at = 8 * w as usize;
+        // A range with an end: rustc then compares the place once with the length of the bytes.
+        LittleEndian::read_u64(&self.slices[s as usize][at..at + 8])
     }
 }
 

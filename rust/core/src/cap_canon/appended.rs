@@ -5,9 +5,8 @@
 use crate::rattle::Vec;
 
 use crate::cap_canon::copying::copy_into;
-use crate::cap_canon::objects::read_range;
 use crate::cap_canon::output::CopyOutput;
-use crate::cap_canon::word_bytes::write_word;
+use crate::cap_canon::word_bytes::{write_word, write_zeros};
 use crate::cap_frame::Segments;
 use crate::cap_words::bytes_of;
 use crate::rattle::alloc::{AllocError, Global};
@@ -52,10 +51,15 @@ impl CopyOutput for AppendedWords {
         write_word(self.bytes.as_mut_slice(), place as usize, word);
     }
 
+    // Inlined, since a walk calls it for a few words at a time.
+    #[inline(always)]
+    fn set_zeros(&mut self, place: u32, count: u32) {
+        write_zeros(self.bytes.as_mut_slice(), place as usize, count as usize);
+    }
+
     // Inlined, since a copy calls it at nearly every object.
     #[inline(always)]
     fn append_from<M: Segments>(&mut self, message: &M, segment: u32, start: u32, count: u32) {
-        read_range(message, segment, start, count);
         match message.bytes_at(segment, start, count) {
             // within the capacity, so that nothing grows
             Some(row) => self.bytes.extend_from_slice(row).unwrap(),

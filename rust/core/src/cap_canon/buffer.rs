@@ -27,10 +27,25 @@ pub fn canonical_into<M: Segments>(
     v: &Vetted<'_, M>,
     out: &mut [u8],
 ) -> Result<usize, BufferFault> {
+    canonical_from(v, v.message(), out)
+}
+
+/// Writes the same copy, from another form of the same message: `same` has the same segments, each with
+/// the same words. The copy reads its words from `same`, and only its length from `v`'s own form.
+/// Allocates nothing.
+///
+/// # Errors
+///
+/// Those of [`canonical_into`].
+pub fn canonical_from<M: Segments, S: Segments>(
+    v: &Vetted<'_, M>,
+    same: &S,
+    out: &mut [u8],
+) -> Result<usize, BufferFault> {
     if let Err(fault) = check_buffer(v, out.len()) {
         return Err(fault);
     }
-    let words = fill_front(v.message(), v.report().depth, out);
+    let words = fill_front(same, v.report().depth, out);
     Ok(8 * words)
 }
 

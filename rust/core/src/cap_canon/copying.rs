@@ -56,6 +56,11 @@ impl<T: CopyOutput> Pass for Copying<'_, T> {
     fn visit<M: Segments>(&mut self, message: &M, object: &Object, place: PointerPlace, end: u32) {
         lay(message, object, place.slot, end, self.output);
     }
+
+    #[inline(always)]
+    fn visit_nulls(&mut self, slot: u32, count: u32) {
+        self.output.set_zeros(slot, count);
+    }
 }
 
 // Writes the pointer word of what is left of an object at `slot`, and its own words from `end` on,

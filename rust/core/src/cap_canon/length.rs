@@ -41,4 +41,7 @@ impl Pass for Counting {
         _end: u32,
     ) {
     }
+
+    #[inline(always)]
+    fn visit_nulls(&mut self, _slot: u32, _count: u32) {}
 }

@@ -163,11 +163,3 @@ fn structs_left<M: Segments>(
     };
     Object::Structs { count, part }
 }
-
-/// The words of a range are words: each of them is read. Nothing is done with them, so the compiler
-/// leaves the loop out.
-pub(crate) fn read_range<M: Segments>(message: &M, segment: u32, start: u32, count: u32) {
-    'words: for k in 0..count {
-        let _word = message.word(segment, start + k);
-    }
-}

@@ -14,6 +14,9 @@ pub(crate) trait CopyOutput {
     /// Writes a word in place of one of them.
     fn set(&mut self, place: u32, word: u64);
 
+    /// Writes zeros in place of `count` of them in a row, from this one on.
+    fn set_zeros(&mut self, place: u32, count: u32);
+
     /// Appends words of a segment.
     fn append_from<M: Segments>(&mut self, message: &M, segment: u32, start: u32, count: u32) {
         self.append_each(message, segment, start, count);
@@ -35,5 +38,10 @@ impl CopyOutput for Vec<u64> {
 
     fn set(&mut self, place: u32, word: u64) {
         self[place as usize] = word;
+    }
+
+    fn set_zeros(&mut self, place: u32, count: u32) {
+        let start = place as usize;
+        self.as_mut_slice()[start..start + count as usize].fill(0);
     }
 }

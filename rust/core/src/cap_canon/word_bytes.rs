@@ -2,7 +2,6 @@
 //! The words of a canonical copy as bytes, over bytes that are there already.
 
 use crate::cap_canon::copying::copy_into;
-use crate::cap_canon::objects::read_range;
 use crate::cap_canon::output::CopyOutput;
 use crate::cap_frame::Segments;
 use crate::cap_words::bytes_of;
@@ -44,10 +43,15 @@ impl CopyOutput for WordBytes<'_> {
         write_word(self.bytes, place as usize, word);
     }
 
+    // Inlined, since a walk calls it for a few words at a time.
+    #[inline(always)]
+    fn set_zeros(&mut self, place: u32, count: u32) {
+        write_zeros(self.bytes, place as usize, count as usize);
+    }
+
     fn append_from<M: Segments>(&mut self, message: &M, segment: u32, start: u32, count: u32) {
         match message.bytes_at(segment, start, count) {
             Some(row) => {
-                read_range(message, segment, start, count);
                 write_row(self.bytes, self.count, row);
                 self.count += count as usize;
             }
@@ -60,6 +64,12 @@ impl CopyOutput for WordBytes<'_> {
 #[inline(always)]
 pub(crate) fn write_word(bytes: &mut [u8], number: usize, word: u64) {
     bytes[8 * number..8 * number + 8].copy_from_slice(&bytes_of(word));
+}
+
+/// Writes zeros in place of `count` words in a row, from the one with this number on.
+#[inline(always)]
+pub(crate) fn write_zeros(bytes: &mut [u8], number: usize, count: usize) {
+    bytes[8 * number..8 * (number + count)].fill(0);
 }
 
 // Writes the bytes of words in a row in place of those of as many words, from the one with this

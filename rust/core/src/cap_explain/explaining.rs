@@ -1,6 +1,7 @@
 // crates/cap_explain/src/explaining.rt without its contracts, by tools/erase: that text is proved, this one is only tested.
 //! The explanation of a refusal.
 
+use crate::cap_difference::Difference;
 use crate::cap_explain::explanation::{Explanation, CAPACITY};
 use crate::cap_explain::landing::{landing_of, Landing};
 use crate::cap_explain::lines::{
@@ -121,11 +122,11 @@ pub fn explain<M: Segments>(
     push_fault(text, message, fault, segment, word, numbers);
 }
 
-/// Writes the lines that explain that the pointer at word `word` of segment `segment` overlaps. The
-/// message begins at `start`, if it is one of a stream. See [`explain`].
-pub fn explain_overlap<M: Segments>(
+/// Writes the lines of an overlap, of a message that has a segment table or not.
+fn push_overlap<M: Segments>(
     text: &mut Explanation,
     message: &M,
+    has_table: bool,
     start: Option<MessageStart>,
     segment: u32,
     word: u32,
@@ -137,8 +138,65 @@ pub fn explain_overlap<M: Segments>(
         words: 0,
         depth: 0,
         charge: None,
-        has_table: true,
+        has_table,
         start,
     };
     push_fault(text, message, Fault::Overlap, segment, word, numbers);
+}
+
+/// Writes the lines that explain that the pointer at word `word` of segment `segment` overlaps. The
+/// message begins at `start`, if it is one of a stream. See [`explain`].
+pub fn explain_overlap<M: Segments>(
+    text: &mut Explanation,
+    message: &M,
+    start: Option<MessageStart>,
+    segment: u32,
+    word: u32,
+    path: Option<&[Step]>,
+) {
+    push_overlap(text, message, true, start, segment, word, path);
+}
+
+/// The same of a message that isn't one of a stream, and has a segment table or not.
+pub fn explain_overlap_alone<M: Segments>(
+    text: &mut Explanation,
+    message: &M,
+    has_table: bool,
+    segment: u32,
+    word: u32,
+    path: Option<&[Step]>,
+) {
+    push_overlap(text, message, has_table, None, segment, word, path);
+}
+
+/// Writes the lines that explain the first difference of an accepted message from its canonical
+/// copy (docs/output.md, explain): those of a refusal, with the reason of the difference. The
+/// message begins at `start`, if it is one of a stream. `path` is that to the pointer that is
+/// named. With `Segments` and `Trailing` no pointer is, so there is only the line of the reason.
+/// See [`explain`].
+pub fn explain_difference<M: Segments>(
+    text: &mut Explanation,
+    message: &M,
+    start: Option<MessageStart>,
+    difference: &Difference,
+    path: Option<&[Step]>,
+) {
+    text.clear();
+    push_path_lines(text, path);
+    let numbers = Numbers {
+        words: 0,
+        depth: 0,
+        charge: None,
+        has_table: true,
+        start,
+    };
+    let fault = Fault::Differs(difference.reason);
+    push_fault(
+        text,
+        message,
+        fault,
+        difference.segment,
+        difference.word,
+        numbers,
+    );
 }

@@ -1,6 +1,7 @@
 // crates/cap_explain/src/sentences.rt without its contracts, by tools/erase: that text is proved, this one is only tested.
 //! Each reason of a refusal, as a sentence.
 
+use crate::cap_difference::DifferenceReason;
 use crate::cap_explain::landing::Landing;
 use crate::cap_explain::target::{is_structs, Target};
 use crate::cap_spec::{Lax, Reason};
@@ -8,7 +9,7 @@ use crate::cap_spec::{Lax, Reason};
 /// The most bytes of a sentence.
 pub(crate) const SENTENCE: usize = 120;
 
-/// Why a message is refused.
+/// Why a message is refused, or isn't its own canonical copy.
 #[derive(Clone, Copy)]
 pub(crate) enum Fault {
     /// It isn't accepted.
@@ -19,11 +20,17 @@ pub(crate) enum Fault {
     NotStrict(Lax),
     /// A pointer overlaps, and an exclusive message is demanded.
     Overlap,
+    /// It is accepted, and this is the first difference from its canonical copy.
+    Differs(DifferenceReason),
 }
 
 /// The fault is one of a pointer.
 pub(crate) fn names_pointer(fault: Fault) -> bool {
-    !matches!(fault, Fault::ManySegments)
+    match fault {
+        Fault::ManySegments => false,
+        Fault::Differs(DifferenceReason::Segments | DifferenceReason::Trailing) => false,
+        _ => true,
+    }
 }
 
 /// The pointer itself is reserved, or the word of its landing pad.
@@ -113,6 +120,43 @@ fn lax_sentence(what: Lax) -> &'static [u8] {
     }
 }
 
+/// Why an accepted message isn't its own canonical copy, as a sentence of at most 120 bytes.
+pub fn difference_sentence(reason: DifferenceReason) -> &'static [u8] {
+    match reason {
+        DifferenceReason::Segments => {
+            b"the message has more than one segment, and a canonical message has one"
+        }
+        DifferenceReason::Far => b"the pointer is a far pointer, and a canonical message has none",
+        DifferenceReason::Capability => {
+            b"the pointer is a capability, so the message has no canonical copy"
+        }
+        DifferenceReason::EmptyStruct => {
+            b"the target is a struct without words, and the pointer of a canonical message to it is fcffffff00000000"
+        }
+        DifferenceReason::Place => {
+            b"the target is not where the canonical copy has it: it is out of preorder, after a gap, or used twice"
+        }
+        DifferenceReason::Bits => {
+            b"bits are set after the last value of the list, and a canonical message has zeros there"
+        }
+        DifferenceReason::EmptyList => {
+            b"the list of structs has no elements, and a canonical message has no sizes in the tag of such a list"
+        }
+        DifferenceReason::Surplus => {
+            b"the list of structs has words after its last element, and a canonical message has none"
+        }
+        DifferenceReason::DataZero => {
+            b"the last data word of the struct, or of all structs of the list, is zero, and a canonical message leaves it out"
+        }
+        DifferenceReason::PointerNull => {
+            b"the last pointer of the struct, or of all structs of the list, is null, and a canonical message leaves it out"
+        }
+        DifferenceReason::Trailing => {
+            b"words come after the last object, and a canonical message ends with it"
+        }
+    }
+}
+
 /// The reason, by the landing pad and the target of the pointer.
 pub(crate) fn sentence(fault: Fault, landing: Landing, target: &Option<Target>) -> &'static [u8] {
     match fault {
@@ -120,6 +164,7 @@ pub(crate) fn sentence(fault: Fault, landing: Landing, target: &Option<Target>) 
         Fault::ManySegments => b"the message has 512 segments, and common readers take at most 511",
         Fault::NotStrict(what) => lax_sentence(what),
         Fault::Overlap =>
-            b"the pointer uses a word twice, or one that is used before it in preorder; --exclusive forbids both",
+            b"the pointer uses a word twice, the root word, or one that an earlier pointer uses; --exclusive forbids all three",
+        Fault::Differs(reason) => difference_sentence(reason),
     }
 }

@@ -107,9 +107,10 @@ impl<'b> ByteView<'b> {
     }
 }
 
-// The bytes of `words` words from word `at` on.
+/// The bytes of `words` words from word `at` on, unchanged. The caller makes sure that these bytes
+/// have them. Allocates nothing.
 #[inline(always)]
-fn words_at<'b>(bytes: &'b [u8], at: usize, words: usize) -> &'b [u8] {
+pub fn words_at<'b>(bytes: &'b [u8], at: usize, words: usize) -> &'b [u8] {
     &bytes[8 * at..8 * (at + words)]
 }
 
@@ -126,8 +127,9 @@ impl<'b> Segments for ByteView<'b> {
 
     #[inline]
     fn word(&self, s: u32, w: u32) -> u64 {
-        let at = (self.starts[s as usize] + w) as usize;
-        LittleEndian::read_u64(&self.bytes[8 * at..])
+        let at = 8 * (self.starts[s as usize] + w) as usize;
+        // A range with an end: rustc then compares the place once with the length of the bytes.
+        LittleEndian::read_u64(&self.bytes[at..at + 8])
     }
 
     #[inline]

@@ -2,7 +2,7 @@
 //! Packing the words of one buffer into another: the length of the text first, and then its bytes. No
 //! memory is taken.
 
-use super::lanes::{count_zeros, squeezed, tag_of_word};
+use super::lanes::{count_present, count_zeros, squeezed, tag_of_word};
 use crate::cap_words::bytes_of;
 use byteorder::{ByteOrder, LittleEndian};
 
@@ -46,15 +46,17 @@ fn write_text(bytes: &[u8], text: &mut [u8]) {
 }
 
 /// How many bytes the words of the group in front have, and how many bytes encode them.
+#[inline(always)]
 pub(crate) fn front_group(bytes: &[u8]) -> (usize, usize) {
-    let tag = tag_of_word(word_at(bytes, 0));
+    let word = word_at(bytes, 0);
+    let tag = tag_of_word(word);
     match tag {
         0 => (8 + 8 * zero_words(&bytes[8..]), 2),
         255 => {
             let more = full_words(&bytes[8..]);
             (8 + 8 * more, 10 + 8 * more)
         }
-        _ => (8, 1 + tag.count_ones() as usize),
+        _ => (8, 1 + count_present(word) as usize),
     }
 }
 
@@ -67,8 +69,11 @@ fn word_at(bytes: &[u8], place: usize) -> u64 {
 // How many words in front are zero, as far as a group goes on with them.
 fn zero_words(bytes: &[u8]) -> usize {
     let most = (bytes.len() / 8).min(255);
+    // By the length of the rest rustc sees that the next word is there.
+    let mut rest = &bytes[..8 * most];
     let mut count = 0;
-    while count < most && word_at(bytes, count) == 0 {
+    'words: while rest.len() >= 8 && word_at(rest, 0) == 0 {
+        rest = &rest[8..];
         count += 1;
     }
     count
@@ -77,14 +82,17 @@ fn zero_words(bytes: &[u8]) -> usize {
 // How many words in front have at most one zero byte, as far as a group goes on with them.
 fn full_words(bytes: &[u8]) -> usize {
     let most = (bytes.len() / 8).min(255);
+    let mut rest = &bytes[..8 * most];
     let mut count = 0;
-    while count < most && count_zeros(word_at(bytes, count)) <= 1 {
+    'words: while rest.len() >= 8 && count_zeros(word_at(rest, 0)) <= 1 {
+        rest = &rest[8..];
         count += 1;
     }
     count
 }
 
 /// Writes the group that encodes just these words.
+#[inline(always)]
 pub(crate) fn write_group(bytes: &[u8], text: &mut [u8]) {
     let word = word_at(bytes, 0);
     let tag = tag_of_word(word);
@@ -97,7 +105,7 @@ pub(crate) fn write_group(bytes: &[u8], text: &mut [u8]) {
             text[10..].copy_from_slice(&bytes[8..]);
         }
         _ => {
-            let count = tag.count_ones() as usize;
+            let count = count_present(word) as usize;
             text[1..].copy_from_slice(&squeezed(tag, word)[..count]);
         }
     }

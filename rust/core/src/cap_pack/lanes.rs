@@ -6,13 +6,13 @@ pub mod scalars;
 // The kernels. `scalars` has functions of the same names and contracts, for compilers without
 // portable vectors.
 pub use scalars::scatter;
+pub(crate) use scalars::{count_present, squeezed, tag_of_word};
 use scalars::{fulls_of_eights, tags_of_eights, zeros_of_eights};
-pub(crate) use scalars::{squeezed, tag_of_word};
 
 /// How many of a word's bytes are zero.
 #[inline(always)]
 pub(crate) fn count_zeros(word: u64) -> u32 {
-    8 - tag_of_word(word).count_ones()
+    8 - count_present(word)
 }
 
 /// The tag of each word, as in a packed group: bit `i` of `out[k]` is set exactly if byte `i` of

@@ -2,7 +2,7 @@
 //! The groups of a piece of words, encoded one after the other.
 
 use super::encoding::{encode_plain, encode_zeros, BUFFER_BYTES};
-use super::lanes::{full_run, squeezed, tag_of_word, zero_run};
+use super::lanes::{count_present, full_run, squeezed, tag_of_word, zero_run};
 use byteorder::{ByteOrder, LittleEndian};
 
 /// The most words of a piece.
@@ -30,7 +30,7 @@ pub(crate) struct Encoded {
 fn encode_marked(text: &mut [u8; BUFFER_BYTES], len: usize, tag: u8, word: u64) -> usize {
     text[len] = tag;
     text[len + 1..len + 9].copy_from_slice(&squeezed(tag, word));
-    len + 1 + tag.count_ones() as usize
+    len + 1 + count_present(word) as usize
 }
 
 /// Encodes the groups of a piece of words after the first `start` bytes, but for a run at the end,

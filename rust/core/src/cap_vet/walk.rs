@@ -3,6 +3,7 @@
 
 pub(crate) mod charge_up_to;
 pub(crate) mod looking;
+pub(crate) mod nulls;
 pub(crate) mod pointer_run;
 pub(crate) mod turn;
 pub(crate) mod vetting;

@@ -42,7 +42,7 @@ impl Judge for Checking {
 }
 
 /// What is counted of an accepted message, by whether it is canonical.
-fn count_of(canonical: bool) -> Counted {
+pub(crate) fn count_of(canonical: bool) -> Counted {
     if canonical {
         Counted::Accepted
     } else {

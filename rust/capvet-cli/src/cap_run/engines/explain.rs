@@ -1,6 +1,7 @@
 // crates/cap_run/src/engines/explain.rt without its contracts, by tools/erase: that text is proved, this one is only tested.
 //! The engines that write for each message whether it is accepted, and explain each refusal.
 
+use crate::cap_run::engines::differing::{counted_by, write_difference_lines};
 use crate::cap_run::engines::explaining::{explain_all, PlacedJudge};
 use crate::cap_run::engines::passing::write_more;
 use crate::cap_run::engines::stream::Counted;
@@ -11,6 +12,7 @@ use crate::cap_run::waiting::Flushing;
 use crate::cap_text::{
     write_accepted, write_filtered, write_overlap, write_refused, Cause, ExplainedFault, Page,
 };
+use capvet_core::cap_difference::first_difference;
 use capvet_core::cap_explain::{
     explain, explain_earlier, explain_overlap, refusal_charge, Explanation, MessageStart, Numbers,
 };
@@ -22,7 +24,7 @@ use capvet_core::cap_words::{ByteOut, OutFault, WordSource};
 use capvet_core::rattle::alloc::Global;
 
 /// The greatest limits.
-fn greatest_limits() -> Limits {
+pub(crate) fn greatest_limits() -> Limits {
     match Limits::new(268435456, 256) {
         Some(limits) => limits,
         None => unreachable!(),
@@ -81,7 +83,7 @@ fn filter_demands() -> Demands {
 }
 
 /// Why `filter`, the guard and the libraries refuse a message under these limits, if they do.
-fn filter_refusal<M: Segments>(message: &M, limits: Limits) -> Option<StrictRefusal> {
+pub(crate) fn filter_refusal<M: Segments>(message: &M, limits: Limits) -> Option<StrictRefusal> {
     match vet_with(message, limits, filter_demands()) {
         Ok(_) => None,
         Err(refusal) => Some(refusal),
@@ -253,14 +255,16 @@ impl PlacedPrinter for OverlapPrinter {
     }
 }
 
-/// Vets a message under demands, and writes the text of its printer if the message meets them. After
-/// the line of an accepted message it explains why `filter`, the guard and the libraries refuse it.
-/// If the message doesn't meet the demands, it explains the first reason why not.
+/// Vets a message under demands, and writes the text of its printer if the message meets them.
+/// After the line of an accepted message it explains why `filter`, the guard and the libraries
+/// refuse it, and if that is asked why the message isn't canonical. If the message doesn't meet the
+/// demands, it explains the first reason why not.
 #[derive(Clone, Copy)]
 struct Explaining<T> {
     limits: Limits,
     demands: Demands,
     packed: bool,
+    canonical: bool,
     printer: T,
 }
 
@@ -307,6 +311,48 @@ impl<T: PlacedPrinter> Explaining<T> {
             Err(cause) => Err(cause),
         }
     }
+
+    /// Does what `print_met` does. After the text of an accepted message it writes whether the
+    /// message is canonical, and why not.
+    fn print_difference<M: Segments, O: ByteOut>(
+        &self,
+        page: &mut Page,
+        out: &mut O,
+        before: u64,
+        number: u32,
+        vetted: &Vetted<'_, M>,
+    ) -> Result<Counted, Cause> {
+        let difference = first_difference(vetted);
+        match self.print_met(page, out, before, number, vetted) {
+            Ok(Counted::Accepted) => {
+                let start = start_after(self.packed, before);
+                let message = vetted.message();
+                let written =
+                    write_difference_lines(page, out, number, message, &difference, start);
+                after_text(written, counted_by(&difference))
+            }
+            Ok(Counted::Refused) => Ok(Counted::Refused),
+            Ok(Counted::NotCanonical) => Ok(Counted::NotCanonical),
+            Err(cause) => Err(cause),
+        }
+    }
+
+    /// Writes the text of a message that meets the demands, with whether it is canonical if that is
+    /// asked.
+    fn print_whole<M: Segments, O: ByteOut>(
+        &self,
+        page: &mut Page,
+        out: &mut O,
+        before: u64,
+        number: u32,
+        vetted: &Vetted<'_, M>,
+    ) -> Result<Counted, Cause> {
+        if self.canonical {
+            self.print_difference(page, out, before, number, vetted)
+        } else {
+            self.print_met(page, out, before, number, vetted)
+        }
+    }
 }
 
 impl<T: PlacedPrinter> PlacedJudge for Explaining<T> {
@@ -319,7 +365,7 @@ impl<T: PlacedPrinter> PlacedJudge for Explaining<T> {
         message: &M,
     ) -> Result<Counted, Cause> {
         match vet_with(message, self.limits, self.demands) {
-            Ok(vetted) => self.print_met(page, out, before, number, &vetted),
+            Ok(vetted) => self.print_whole(page, out, before, number, &vetted),
             Err(refusal) => {
                 let written = self.write_refusal(page, out, before, number, message, &refusal);
                 after_text(written, Counted::Refused)
@@ -331,6 +377,10 @@ impl<T: PlacedPrinter> PlacedJudge for Explaining<T> {
 /// Does what [`run_vet_with`](crate::run_vet_with) does, and explains each refusal. After the line of
 /// a refused message come lines with the path to its pointer, the pointer word and where it leads,
 /// what is exceeded, and the reason as a sentence.
+///
+/// If `settings.canonical` says so, a line on whether it is canonical comes after the text of an
+/// accepted message, with the first difference from its canonical copy and the lines that explain
+/// that. A message that isn't canonical is counted as such.
 ///
 /// # Errors
 ///
@@ -348,6 +398,7 @@ pub fn run_explain<S: WordSource, O: ByteOut, F: Flushing<S>>(
         limits: settings.limits,
         demands,
         packed: settings.packed,
+        canonical: settings.canonical,
         printer: AcceptedPrinter,
     };
     explain_all(alloc, source, out, settings, explaining, flushing)
@@ -372,6 +423,7 @@ pub fn run_explain_exclusive<S: WordSource, O: ByteOut, F: Flushing<S>>(
         limits: settings.limits,
         demands,
         packed: settings.packed,
+        canonical: settings.canonical,
         printer: OverlapPrinter {
             alloc,
             packed: settings.packed,

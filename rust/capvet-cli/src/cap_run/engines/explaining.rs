@@ -14,17 +14,17 @@ use capvet_core::rattle::alloc::Global;
 
 /// The message that was read last, and the page for its text. If a message can't be read, what is
 /// known of it.
-struct ExplainBuffers {
-    message: ByteMessage,
+pub(crate) struct ExplainBuffers {
+    pub(crate) message: ByteMessage,
     /// The words of its frame.
     words: u64,
     page: Page,
-    at: StreamBreak,
+    pub(crate) at: StreamBreak,
 }
 
 impl ExplainBuffers {
     /// What is kept before the first message.
-    fn new(alloc: Global) -> ExplainBuffers {
+    pub(crate) fn new(alloc: Global) -> ExplainBuffers {
         ExplainBuffers {
             message: ByteMessage::blank(alloc),
             words: 0,
@@ -88,7 +88,7 @@ fn break_at(
 }
 
 /// Reads the next message. If it can't be read, keeps what is known of it.
-fn read_next<S: WordSource>(
+pub(crate) fn read_next<S: WordSource>(
     alloc: Global,
     source: &mut S,
     settings: &ExplainSettings,
@@ -209,7 +209,7 @@ impl<J: PlacedJudge> Explainer<J> {
 }
 
 /// The fault at a message, and what is known of the message.
-fn stopped_at(message: u32, cause: Cause, at: StreamBreak) -> ExplainedFault {
+pub(crate) fn stopped_at(message: u32, cause: Cause, at: StreamBreak) -> ExplainedFault {
     ExplainedFault {
         fault: RunFault { message, cause },
         at,

@@ -14,7 +14,7 @@ pub(crate) enum Counted {
     Accepted,
     /// It was refused.
     Refused,
-    /// It was accepted and isn't canonical.
+    /// It was accepted and isn't canonical, or has no canonical copy if a hash is asked for.
     NotCanonical,
 }
 

@@ -5,15 +5,16 @@ use crate::cap_calls::answer::Answer;
 use crate::cap_calls::found::Found;
 use crate::cap_calls::input::over_input;
 use crate::cap_calls::limits::CallLimits;
+use crate::cap_calls::one_slice::OneSlice;
 use crate::cap_calls::over::Call;
 use crate::cap_calls::report::CallReport;
-use crate::cap_canon::{canonical_into, BufferFault};
+use crate::cap_canon::{canonical_from, canonical_into, BufferFault};
 use crate::cap_frame::ByteView;
 use crate::cap_vet::{vet_with, Demands, Limits, Report};
 
 /// Writes the canonical copy of the message that bytes are to the start of `out`, as the bytes of
-/// its words alone, without a table (encoding: Canonicalization, 64-bit Words). The flags 1 and 8
-/// are as for [`crate::vet`]. Allocates nothing.
+/// its words alone, without a table (encoding: Canonicalization, 64-bit Words). The form
+/// is as for [`crate::vet`]. Allocates nothing.
 ///
 /// The first of these that applies is returned:
 /// - the answers of [`crate::vet`], if the message isn't accepted; `required` is 0;
@@ -57,6 +58,26 @@ impl Call for Copying {
         match vet_with(view, limits, demands) {
             Ok(vetted) => found_of_size(canonical_into(&vetted, out), vetted.report()),
             Err(refusal) => Found::refused(refusal),
+        }
+    }
+
+    // The copy is made from the slice: it then looks up neither the start nor the size of a segment.
+    // The view is vetted, by the walk that other calls have too.
+    #[inline(always)]
+    fn on_one<'b>(
+        &self,
+        view: &ByteView<'b>,
+        _words: u64,
+        limits: Limits,
+        demands: Demands,
+        out: &mut [u8],
+    ) -> Found {
+        match vet_with(view, limits, demands) {
+            Ok(vetted) => {
+                let slice = OneSlice::of(view);
+                found_of_size(canonical_from(&vetted, &slice, out), vetted.report())
+            }
+            Err(fault) => Found::refused(fault),
         }
     }
 }

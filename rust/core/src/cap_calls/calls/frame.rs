@@ -26,7 +26,7 @@ fn extent(bytes: &[u8], limits: &CallLimits) -> Found {
             count: 0,
             report: CallReport::none(),
         }
-        .framed(&framed),
+        .framed(&framed, limits),
         Err(cause) => Found::without(cause),
     }
 }

@@ -12,7 +12,7 @@ use crate::cap_frame::{ByteView, Segments};
 use crate::cap_path::{read_path, PathSteps};
 use crate::cap_vet::{get_with, Demands, Limits};
 
-/// Follows a path in the message that bytes are, and reports the node there. With the flag 1 the
+/// Follows a path in the message that bytes are, and reports the node there. By their form the
 /// bytes may start with the message. Only the pointers on the path are looked at, so the message
 /// needn't be vetted (encoding: Security Considerations). Allocates nothing.
 ///
@@ -23,7 +23,7 @@ use crate::cap_vet::{get_with, Demands, Limits};
 /// - the reason of the first pointer on the path that is wrong or past a limit, with its place; the
 ///   charge of the pointers on the path counts, the root's among them;
 /// - [`Answer::ManySegments`], and then the form of the first pointer on the path that isn't
-///   strict, without the flag 2;
+///   strict, without the flag 1;
 /// - [`Answer::NoNode`], if nothing is at the path;
 /// - [`Answer::Good`], and `node` is the node.
 ///
@@ -61,7 +61,7 @@ fn find(bytes: &[u8], limits: &CallLimits, path: &[u8], node: &mut CallNode) -> 
     }
 }
 
-// Whether no limit is above its maximum, no flag is unknown, and the reserved fields are 0.
+// Whether no limit is above its maximum, no flag and no form is unknown, and the reserved fields are 0.
 // Of no bytes nothing else is found before bad limits.
 pub(crate) fn are_limits(limits: &CallLimits) -> bool {
     match front(&[], limits) {

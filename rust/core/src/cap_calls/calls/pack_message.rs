@@ -11,7 +11,7 @@ use crate::cap_pack::pack_into;
 use crate::cap_vet::{Demands, Limits};
 
 /// Packs the message that bytes are to the start of `out`: its table and each of its segments by
-/// itself, with zero padding (encoding: Packing, Serialization Over a Stream). With the flag 1 the
+/// itself, with zero padding (encoding: Packing, Serialization Over a Stream). By their form the
 /// bytes may start with the message. It checks no pointer. Allocates nothing.
 ///
 /// The first of these that applies is returned:

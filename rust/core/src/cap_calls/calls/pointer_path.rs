@@ -97,7 +97,7 @@ fn traced<M: Segments>(message: &M, limits: Limits, number: u64, out: &mut [Call
 }
 
 // What is found of a path of this many steps.
-fn found_of_steps(answer: Answer, count: usize) -> Found {
+pub(crate) fn found_of_steps(answer: Answer, count: usize) -> Found {
     Found {
         answer,
         count,

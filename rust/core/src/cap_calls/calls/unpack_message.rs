@@ -63,8 +63,8 @@ struct Stop {
 pub(crate) enum Stage {
     // More words belong to it, up to `needed` bytes.
     Open { needed: u64 },
-    // It is whole.
-    Whole { segments: u32 },
+    // It is whole, and its segments have this many words together.
+    Whole { segments: u32, words: u64 },
     // It has too many segments.
     TooMany { count: u64 },
     // Its segments have too many words.
@@ -131,6 +131,7 @@ fn stage_of(held: &[u8], size: SizeLimit) -> Stage {
     match front_of(held, size) {
         Ok(Some(framed)) => Stage::Whole {
             segments: framed.count(),
+            words: framed.words(),
         },
         Ok(None) => Stage::Open { needed: 8 },
         Err(FrontFault::Truncated { needed }) => Stage::Open { needed },
@@ -191,14 +192,14 @@ fn stop_of(rest: &[u8], given: Given, stage: Stage, state: Unpacking) -> Stop {
     };
     match stage {
         Stage::Open { needed } => open_stop(rest, given, needed, stop),
-        Stage::Whole { segments } => whole_stop(given.written, segments, stop),
+        Stage::Whole { segments, words } => whole_stop(given.written, segments, words, stop),
         Stage::TooMany { count } => refused_stop(Answer::TooManySegments, count, stop),
         Stage::TooLarge { words } => refused_stop(Answer::TooLarge, words, stop),
     }
 }
 
-// After a whole message of this many bytes and segments.
-fn whole_stop(bytes: usize, segments: u32, stop: Stop) -> Stop {
+// After a whole message of this many bytes, segments and words.
+fn whole_stop(bytes: usize, segments: u32, words: u64, stop: Stop) -> Stop {
     Stop {
         answer: Answer::Good,
         required: bytes,
@@ -209,6 +210,7 @@ fn whole_stop(bytes: usize, segments: u32, stop: Stop) -> Stop {
         report: CallReport {
             length: bytes as u64,
             segments,
+            words,
             ..stop.report
         },
         ..stop

@@ -4,5 +4,5 @@
 /// The version of the calls: 65536 times its major number, 256 times its minor number, and the
 /// number of its patch.
 pub fn version() -> u32 {
-    65792
+    131072
 }

@@ -11,13 +11,13 @@ use crate::cap_calls::report::CallReport;
 use crate::cap_frame::{ByteView, Segments};
 use crate::cap_vet::{vet_with, Demands, Limits};
 
-/// Vets the message that bytes are, within limits. With the flag 1 the bytes may start with it, and
-/// those after it are never looked at. With the flag 8 they are the words of its one segment.
+/// Vets the message that bytes are, within limits. By their form the bytes may start with it, and
+/// those after it are never looked at. Or they are the words of its one segment.
 /// Allocates nothing (encoding: Security Considerations).
 ///
 /// It returns [`Answer::Good`] if the message is accepted: its root denotes a finite tree within
-/// the limits. It is also strict, or flag 2 is set. Its charge is at most 4096 words above the
-/// words of its segments, or flag 4 is set.
+/// the limits. It is also strict, or flag 1 is set. Its charge is at most 4096 words above the
+/// words of its segments, or flag 2 is set.
 ///
 /// Otherwise it returns the first of these that applies: why there is no frame,
 /// [`Answer::Trailing`], the reason of a refusal, [`Answer::ManySegments`], the form of the first

@@ -22,8 +22,7 @@ use crate::cap_frame::Segments;
 /// - [`Answer::TooLarge`], if they have more words than the limit; the report has how many, at most
 ///   2^64 - 1.
 ///
-/// The report is written whole, and its length is the bytes of all segments. The flag 1 has no
-/// effect.
+/// The report is written whole, and its length is the bytes of all segments.
 pub fn vet_segments(segments: &[&[u8]], limits: &CallLimits, report: &mut CallReport) -> Answer {
     let found = found_of(segments, limits);
     *report = found.report;
@@ -39,8 +38,14 @@ fn found_of(segments: &[&[u8]], limits: &CallLimits) -> Found {
     };
     match SliceMessage::new(segments, size) {
         Ok(message) => {
-            let words = message.words() as usize;
-            judged(&message, walk, limits.demands()).extent(8 * words, message.count())
+            let words = message.words();
+            let limit = limits.charge_limit(words);
+            judged(&message, walk, limits.demands()).extent(
+                8 * words as usize,
+                message.count(),
+                words,
+                limit,
+            )
         }
         Err(fault) => without_message(fault),
     }

@@ -28,6 +28,13 @@ pub fn tag_of_word(word: u64) -> u8 {
     ((present_bits(word) >> 7).wrapping_mul(0x0102_0408_1020_4080) >> 56) as u8
 }
 
+/// How many of a word's bytes aren't zero.
+#[inline(always)]
+pub fn count_present(word: u64) -> u32 {
+    // The product adds up the eight bits, since x86-64 counts bits only by an extension.
+    ((present_bits(word) >> 7).wrapping_mul(0x0101_0101_0101_0101) >> 56) as u32
+}
+
 /// The tags of none of the words. Without vectors, one word at a time takes as long.
 #[inline(always)]
 pub fn tags_of_eights(words: &[u64], out: &mut [u8]) -> usize {

@@ -5,6 +5,7 @@ use crate::cap_frame::Segments;
 use crate::cap_spec::{Reason, Refusal};
 use crate::cap_vet::limits::Limits;
 use crate::cap_vet::walk::looking::{look_described, Looked};
+use crate::cap_vet::walk::nulls::nulls;
 use crate::cap_vet::walk::pointer_run::PointerRun;
 use crate::cap_vet::walk::turn::{add, visit, Stopped, Turn};
 use crate::cap_vet::walk::vetting::Report;
@@ -232,12 +233,7 @@ fn pass_nulls<M: Segments>(message: &M, run: &mut PointerRun, report: &mut Repor
     if run.left < 2 || message.word(run.segment, run.at) != 0 {
         return;
     }
-    let (segment, at, most) = (run.segment, run.at, run.left - 1);
-    // One number counts in the loop, so that a null word takes few instructions.
-    let mut passed = 1;
-    'nulls: while passed < most && message.word(segment, at + passed) == 0 {
-        passed += 1;
-    }
+    let passed = nulls(message, run.segment, run.at, run.left - 1);
     // The count stays below the charge, a number of 64 bits.
     let _charge = report.charge;
     run.at += passed;

@@ -1,0 +1,265 @@
+// crates/cap_run/src/engines/explained.rt without its contracts, by tools/erase: that text is proved, this one is only tested.
+//! The engines that write a JSON object about each message, which explains a refusal.
+
+use crate::cap_run::engines::canonical_object::print_canonical_object;
+use crate::cap_run::engines::explain::filter_refusal;
+use crate::cap_run::engines::explaining::{explain_all, PlacedJudge};
+use crate::cap_run::engines::sentence::last_reason;
+use crate::cap_run::engines::stream::Counted;
+use crate::cap_run::engines::whole::after_text;
+use crate::cap_run::settings::{ExplainSettings, Outcome};
+use crate::cap_run::waiting::Flushing;
+use crate::cap_text::{
+    write_accepted_json, write_explained_json, write_explained_overlap_json, write_filtered_json,
+    Cause, ExplainedFault, Page,
+};
+use capvet_core::cap_explain::{explain, explain_overlap, Explanation, Numbers};
+use capvet_core::cap_frame::Segments;
+use capvet_core::cap_spec::StrictRefusal;
+use capvet_core::cap_trace::NamedPath;
+use capvet_core::cap_vet::{
+    vet_exclusive, vet_with, Demands, ExclusiveRefusal, Limits, Report, Vetted,
+};
+use capvet_core::cap_words::{ByteOut, OutFault, WordSource};
+use capvet_core::rattle::alloc::Global;
+
+/// The lines that explain a refusal, without a path. The last gives its sentence, which no number
+/// changes.
+pub(crate) fn reason_lines<M: Segments>(message: &M, refusal: &StrictRefusal) -> Explanation {
+    let numbers = Numbers {
+        words: 0,
+        depth: 0,
+        charge: None,
+        has_table: true,
+        start: None,
+    };
+    let mut lines = Explanation::new();
+    explain(&mut lines, message, refusal, numbers, None);
+    lines
+}
+
+/// The lines that explain that a pointer uses a word twice, without a path. The last gives its
+/// sentence.
+fn overlap_lines<M: Segments>(message: &M, segment: u32, word: u32) -> Explanation {
+    let mut lines = Explanation::new();
+    explain_overlap(&mut lines, message, None, segment, word, None);
+    lines
+}
+
+/// Writes the object of a message that doesn't meet demands within limits.
+fn write_fault_object<M: Segments, O: ByteOut>(
+    page: &mut Page,
+    out: &mut O,
+    number: u32,
+    message: &M,
+    refusal: &StrictRefusal,
+    limits: Limits,
+) -> Result<(), OutFault> {
+    let mut path = NamedPath::new();
+    path.find_refused(message, limits, refusal);
+    let lines = reason_lines(message, refusal);
+    let sentence = last_reason(lines.text());
+    write_explained_json(page, out, number, refusal, path.steps(), sentence)
+}
+
+/// Writes the object of a message that is accepted, and that `filter`, the guard and the libraries
+/// refuse.
+fn write_filtered_object<M: Segments, O: ByteOut>(
+    page: &mut Page,
+    out: &mut O,
+    number: u32,
+    message: &M,
+    report: &Report,
+    refusal: &StrictRefusal,
+    limits: Limits,
+) -> Result<(), OutFault> {
+    let mut path = NamedPath::new();
+    path.find_refused(message, limits, refusal);
+    let lines = reason_lines(message, refusal);
+    let sentence = last_reason(lines.text());
+    write_filtered_json(page, out, number, report, refusal, path.steps(), sentence)
+}
+
+/// Writes the object of a message that is accepted. Its last member says why `filter`, the guard and
+/// the libraries refuse the message within these limits, if they do.
+fn write_accepted_object<M: Segments, O: ByteOut>(
+    page: &mut Page,
+    out: &mut O,
+    number: u32,
+    message: &M,
+    report: &Report,
+    limits: Limits,
+) -> Result<(), OutFault> {
+    match filter_refusal(message, limits) {
+        Some(refusal) => {
+            write_filtered_object(page, out, number, message, report, &refusal, limits)
+        }
+        None => write_accepted_json(page, out, number, report),
+    }
+}
+
+/// Writes the object of a message that is accepted. It says whether the message is canonical, and
+/// why not, if that is asked.
+fn print_accepted_object<M: Segments, O: ByteOut>(
+    page: &mut Page,
+    out: &mut O,
+    number: u32,
+    vetted: &Vetted<'_, M>,
+    limits: Limits,
+    canonical: bool,
+) -> Result<Counted, Cause> {
+    if canonical {
+        return print_canonical_object(page, out, number, vetted, limits);
+    }
+    let report = vetted.report();
+    let written = write_accepted_object(page, out, number, vetted.message(), &report, limits);
+    after_text(written, Counted::Accepted)
+}
+
+/// Writes the object of a message within limits that uses a word twice, with the first pointer that
+/// overlaps.
+fn write_overlap_object<M: Segments, O: ByteOut>(
+    page: &mut Page,
+    out: &mut O,
+    number: u32,
+    message: &M,
+    limits: Limits,
+    segment: u32,
+    word: u32,
+    pointers: u64,
+) -> Result<(), OutFault> {
+    let mut path = NamedPath::new();
+    path.find(message, limits, pointers);
+    let lines = overlap_lines(message, segment, word);
+    let sentence = last_reason(lines.text());
+    write_explained_overlap_json(
+        page,
+        out,
+        number,
+        segment,
+        word,
+        pointers,
+        path.steps(),
+        sentence,
+    )
+}
+
+/// Vets a message under demands, and writes its object. If it doesn't meet them, the object explains
+/// why.
+#[derive(Clone, Copy)]
+struct Explaining {
+    limits: Limits,
+    demands: Demands,
+    canonical: bool,
+}
+
+impl PlacedJudge for Explaining {
+    fn judge<M: Segments, O: ByteOut>(
+        &self,
+        page: &mut Page,
+        out: &mut O,
+        _before: u64,
+        number: u32,
+        message: &M,
+    ) -> Result<Counted, Cause> {
+        let limits = self.limits;
+        match vet_with(message, limits, self.demands) {
+            Ok(vetted) => print_accepted_object(page, out, number, &vetted, limits, self.canonical),
+            Err(refusal) => {
+                let written = write_fault_object(page, out, number, message, &refusal, limits);
+                after_text(written, Counted::Refused)
+            }
+        }
+    }
+}
+
+/// Vets a message under demands, and writes its object. If it doesn't meet them, or uses a word twice,
+/// the object explains why.
+#[derive(Clone, Copy)]
+struct ExplainingExclusive {
+    alloc: Global,
+    limits: Limits,
+    demands: Demands,
+    canonical: bool,
+}
+
+impl PlacedJudge for ExplainingExclusive {
+    fn judge<M: Segments, O: ByteOut>(
+        &self,
+        page: &mut Page,
+        out: &mut O,
+        _before: u64,
+        number: u32,
+        message: &M,
+    ) -> Result<Counted, Cause> {
+        let limits = self.limits;
+        match vet_exclusive(self.alloc, message, limits, self.demands) {
+            Ok(exclusive) => {
+                let vetted = exclusive.into_vetted();
+                print_accepted_object(page, out, number, &vetted, limits, self.canonical)
+            }
+            Err(ExclusiveRefusal::Refused(refusal)) => {
+                let written = write_fault_object(page, out, number, message, &refusal, limits);
+                after_text(written, Counted::Refused)
+            }
+            Err(ExclusiveRefusal::Overlap {
+                segment,
+                word,
+                pointers,
+            }) => {
+                let written = write_overlap_object(
+                    page, out, number, message, limits, segment, word, pointers,
+                );
+                after_text(written, Counted::Refused)
+            }
+            Err(ExclusiveRefusal::Memory) => Err(Cause::Memory),
+        }
+    }
+}
+
+/// Does what [`run_explain`](crate::run_explain) does, and writes a JSON object for each message in the
+/// place of its lines. That of a refused message has the path to the pointer, and the reason as a
+/// sentence. That of an accepted message says why `filter`, the guard and the libraries refuse it, if
+/// they do (docs/output.md, JSON).
+///
+/// # Errors
+///
+/// Those of [`run_explain`](crate::run_explain).
+pub fn run_explain_json<S: WordSource, O: ByteOut, F: Flushing<S>>(
+    alloc: Global,
+    source: &mut S,
+    out: &mut O,
+    settings: &ExplainSettings,
+    demands: Demands,
+    flushing: &F,
+) -> Result<Outcome, ExplainedFault> {
+    let explaining = Explaining {
+        limits: settings.limits,
+        demands,
+        canonical: settings.canonical,
+    };
+    explain_all(alloc, source, out, settings, explaining, flushing)
+}
+
+/// Does what [`run_explain_exclusive`](crate::run_explain_exclusive) does, and writes a JSON object for
+/// each message as [`run_explain_json`] does.
+///
+/// # Errors
+///
+/// Those of [`run_explain_exclusive`](crate::run_explain_exclusive).
+pub fn run_explain_exclusive_json<S: WordSource, O: ByteOut, F: Flushing<S>>(
+    alloc: Global,
+    source: &mut S,
+    out: &mut O,
+    settings: &ExplainSettings,
+    demands: Demands,
+    flushing: &F,
+) -> Result<Outcome, ExplainedFault> {
+    let explaining = ExplainingExclusive {
+        alloc,
+        limits: settings.limits,
+        demands,
+        canonical: settings.canonical,
+    };
+    explain_all(alloc, source, out, settings, explaining, flushing)
+}
