@@ -3,6 +3,7 @@
 #define CAPVET_KJ_STREAM_H
 
 #include <arpa/inet.h>
+#include <capnp/rpc-twoparty.capnp.h>
 #include <capnp/serialize-async.h>
 #include <capvet/kj-message.h>
 #include <kj/async-io.h>
@@ -10,6 +11,8 @@
 #include <kj/debug.h>
 #include <kj/function.h>
 #include <kj/io.h>
+#include <kj/time.h>
+#include <kj/timer.h>
 #include <kj/vector.h>
 #include <netinet/in.h>
 #include <sys/socket.h>
@@ -17,26 +20,124 @@
 namespace capvet {
 inline namespace CAPVET_KJ_VERSION {
 
-/* A function that a stream calls once at most: when a message is refused, or when the peer is too slow. Pass a new one or
- * a moved one: kj::Function keeps one that has a name by reference. An exception of it is logged. It runs within the
- * promise of a read or a write. It may destroy the stream, but not that promise, so no RPC system that uses the stream. */
-using OnRefused = kj::Function<void(const Refusal &)>;
+/* What a stream accepts, and how slow its peer may be. Vetting bounds one message; these bound the time that a peer takes, and
+ * the replies that it leaves unread. */
+struct StreamOptions : Options {
+  /* For a server `paced` is on, and `idle` is 10 minutes. For a client `paced` is off, and `idle` is no limit. */
+  StreamOptions(capnp::rpc::twoparty::Side side)
+      : idle(side == capnp::rpc::twoparty::Side::SERVER ? 10 * kj::MINUTES : 0 * kj::SECONDS),
+        paced(side == capnp::rpc::twoparty::Side::SERVER) {}
 
-inline void ignore(const Refusal &) {}
+  /* The most time from the first byte of a message to its last. Let the slowest peer send `limits.message_words`. */
+  kj::Duration deadline = 20 * kj::SECONDS;
 
-/* The peer of a connection, such as "127.0.0.1:4000" or "[::1]:4000". It is empty if there is no such address. */
-inline kj::String peerOf(kj::AsyncIoStream &connection) {
+  /* The most time from the end of a message to the beginning of the next one, in whichever direction they go, while a
+   * read waits. Then the read throws, and the connection ends. So it does during a call that takes longer, unless
+   * something else is sent meanwhile. 0 is no limit. */
+  kj::Duration idle;
+
+  /* The most time that a written message may stay unread, and the most time that a connection lasts after a refusal or
+   * the peer's end. Then it is dropped: what is still written fails, and the peer gets a reset. */
+  kj::Duration unread = 60 * kj::SECONDS;
+
+  /* Whether two messages at most are read before the replies to them are written, as far as these are there. A peer that
+   * doesn't read its replies then can't cause more of them. Two peers that both do so can wait for each other, until
+   * `unread` is over: one of them is enough. */
+  bool paced;
+};
+
+/* Why a connection was ended. */
+enum class Cause {
+  REFUSED, /* the bytes are not an accepted message */
+  CUT,     /* the peer ended inside a message */
+  LATE,    /* the peer took longer than `deadline` for a message */
+  IDLE,    /* there was no message for longer than `idle` */
+  UNREAD,  /* the peer took longer than `unread` to read a message */
+};
+
+/* The end of a connection, as `onEnded` gets it. It is borrowed then, and so are its parts. */
+struct Ended {
+  explicit Ended(Cause why) : cause(why) {}
+  Ended(Cause why, const Refusal &which) : cause(why), refusal(which) {}
+  KJ_DISALLOW_COPY(Ended);
+
+  Cause cause;
+
+  /* The message that isn't accepted or isn't whole. There is none after IDLE and UNREAD. */
+  kj::Maybe<const Refusal &> refusal;
+
+  /* The peer of the connection, such as "127.0.0.1:4000". It is empty if the connection doesn't say. */
+  kj::StringPtr peer = nullptr;
+};
+
+/* The text of the refusal, and after a cause other than REFUSED a word for it, as in "refused Truncated 24, late". Without a
+ * refusal it is "dropped, idle" or "dropped, unread". */
+inline kj::String KJ_STRINGIFY(const Ended &ended) {
+  static constexpr const char *WORDS[] = {"", ", cut", ", late", ", idle", ", unread"};
+  const char *word = WORDS[static_cast<int>(ended.cause)];
+  if (auto *refusal = detail::valueOf(ended.refusal)) return kj::str(*refusal, word);
+  return kj::str("dropped", word);
+}
+
+/* The end as an exception, with the text above. Its type is DISCONNECTED if the peer has ended, is idle or reads
+ * nothing, OVERLOADED if it was late, and otherwise FAILED. */
+inline kj::Exception exceptionOf(const Ended &ended) {
+  using Type = kj::Exception::Type;
+  const auto cause = ended.cause;
+  const auto type = cause == Cause::REFUSED ? Type::FAILED : cause == Cause::LATE ? Type::OVERLOADED : Type::DISCONNECTED;
+  return kj::Exception(type, __FILE__, __LINE__, kj::str(ended));
+}
+
+namespace detail {
+
+/* A function that keeps what it calls, also what has a name. (kj::Function keeps that by reference) */
+template <typename Parameter, typename Result = void>
+class Kept final {
+  template <typename Callable>
+  using Takes = std::conjunction<std::negation<std::is_same<Callable, Kept>>,
+                                 std::is_invocable_r<Result, Callable &, const Parameter &>>;
+
+ public:
+  template <typename Callable, typename = std::enable_if_t<Takes<std::decay_t<Callable>>::value>>
+  Kept(Callable &&callable) : function_(std::decay_t<Callable>(kj::fwd<Callable>(callable))) {}
+
+  Result operator()(const Parameter &parameter) { return function_(parameter); }
+
+ private:
+  kj::Function<Result(const Parameter &)> function_;
+};
+
+/* A function that does nothing. */
+template <typename Parameter>
+void ignore(const Parameter &) {}
+
+}  // namespace detail
+
+/* A function that a stream calls once at most: when a message is refused, or when the peer is too slow. It is made of any
+ * function or lambda, and keeps a copy of one that has a name. An exception of it is logged. It runs within the promise of
+ * a read or a write. It may destroy the stream, but not that promise, so no RPC system that uses the stream. */
+using OnEnded = detail::Kept<Ended>;
+
+namespace detail {
+
+/* The address of a connection's peer. Its family is AF_UNSPEC if the connection doesn't say. */
+inline sockaddr_storage addressOf(kj::AsyncIoStream &connection) {
   sockaddr_storage space = {};
   auto *address = reinterpret_cast<sockaddr *>(&space);
   unsigned int length = sizeof space;
-  char text[INET6_ADDRSTRLEN] = "";
   auto failed = kj::runCatchingExceptions([&]() { connection.getpeername(address, &length); });
-  if (valueOf(failed) != nullptr) return kj::String();
-  if (address->sa_family == AF_INET) {
+  return valueOf(failed) == nullptr ? space : sockaddr_storage();
+}
+
+/* The peer of a connection, such as "127.0.0.1:4000" or "[::1]:4000". It is empty if there is no such address. */
+inline kj::String peerOf(kj::AsyncIoStream &connection) {
+  const auto space = addressOf(connection);
+  char text[INET6_ADDRSTRLEN] = "";
+  if (space.ss_family == AF_INET) {
     const auto &four = *reinterpret_cast<const sockaddr_in *>(&space);
     return kj::str(inet_ntop(AF_INET, &four.sin_addr, text, sizeof text), ":", ntohs(four.sin_port));
   }
-  if (address->sa_family == AF_INET6) {
+  if (space.ss_family == AF_INET6) {
     const auto &six = *reinterpret_cast<const sockaddr_in6 *>(&space);
     return kj::str("[", inet_ntop(AF_INET6, &six.sin6_addr, text, sizeof text), "]:", ntohs(six.sin6_port));
   }
@@ -44,20 +145,17 @@ inline kj::String peerOf(kj::AsyncIoStream &connection) {
 }
 
 /* Throws if the limits are not valid for messages with a table. */
-inline void requireValid(const Options &options) {
+inline void requireValid(const capvet_limits &limits) {
   capvet_report report;
   // (they are the first thing that the call looks at)
-  const bool isBad = capvet_frame(nullptr, 0, &options.limits, &report) == CAPVET_BAD_LIMITS;
+  const bool isBad = haveForm(limits) || capvet_frame(nullptr, 0, &limits, &report) == CAPVET_BAD_LIMITS;
   KJ_REQUIRE(!isBad, "capvet: these limits refuse every message (CAPVET_BAD_LIMITS)");
 }
 
-/* The end of a stream: one exception, and one call of `onRefused`. */
+/* The end of a stream: one exception, and one call of `onEnded`. */
 class Ending final {
  public:
-  Ending(const Options &options, OnRefused &&onRefused, kj::String &&peer)
-      : onRefused_(kj::mv(onRefused)), peer_(kj::mv(peer)) {
-    requireValid(options);
-  }
+  Ending(OnEnded &&onEnded, kj::String &&peer) : onEnded_(kj::mv(onEnded)), peer_(kj::mv(peer)) {}
 
   /* The exception that it ended with, or null. */
   const kj::Exception *exception() { return valueOf(ended_); }
@@ -67,32 +165,32 @@ class Ending final {
     if (valueOf(ended_) == nullptr) ended_ = kj::cp(exception);
   }
 
-  /* Ends with the exception of a refusal, and gives it. The callback may destroy the stream with this in it. */
-  KJ_NOINLINE kj::Exception refuse(Refusal &refusal) {
-    auto exception = exceptionOf(refusal);
+  /* Ends, and gives the exception. The callback may destroy the stream with this in it. */
+  KJ_NOINLINE kj::Exception end(Ended &&ended) {
+    auto exception = exceptionOf(ended);
     end(exception);
-    report(refusal);
+    report(ended);
     return exception;
   }
 
   /* Calls back, unless it did so before. */
-  void report(Refusal &refusal) {
+  void report(Ended &ended) {
     if (isReported_) return;
     isReported_ = true;
-    call(kj::mv(onRefused_), kj::mv(peer_), refusal);
+    call(kj::mv(onEnded_), kj::mv(peer_), ended);
   }
 
  private:
   // (the function and the text are taken, since the stream may be gone before they are)
-  static void call(OnRefused &&passed, kj::String &&peer, Refusal &refusal) {
-    auto onRefused = kj::mv(passed);
+  static void call(OnEnded &&passed, kj::String &&peer, Ended &ended) {
+    auto onEnded = kj::mv(passed);
     const auto name = kj::mv(peer);
-    refusal.peer = name;
-    auto failed = kj::runCatchingExceptions([&]() { onRefused(refusal); });
-    if (auto *thrown = valueOf(failed)) KJ_LOG(ERROR, "capvet: onRefused threw", *thrown);
+    ended.peer = name;
+    auto failed = kj::runCatchingExceptions([&]() { onEnded(ended); });
+    if (auto *thrown = valueOf(failed)) KJ_LOG(ERROR, "capvet: onEnded threw", *thrown);
   }
 
-  OnRefused onRefused_;
+  OnEnded onEnded_;
   kj::String peer_;
   kj::Maybe<kj::Exception> ended_;
   bool isReported_ = false;
@@ -102,17 +200,17 @@ class Ending final {
 class Guard final {
  public:
   /* With `files` the file descriptors of a message are read too: it is the same connection. */
-  Guard(kj::AsyncIoStream &connection, kj::AsyncCapabilityStream *files, const Options &options, OnRefused &&onRefused)
+  Guard(kj::AsyncIoStream &connection, kj::AsyncCapabilityStream *files, kj::Timer &timer, const StreamOptions &options,
+        OnEnded &&onEnded)
       : connection_(connection),
         files_(files),
+        timer_(timer),
         options_(options),
-        ending_(options, kj::mv(onRefused), peerOf(connection)) {
-    // (the buffer may have messages after the one that is vetted)
-    options_.limits.flags |= CAPVET_ALLOW_TRAILING;
+        limits_(ofPrefix(options.limits)),
+        ending_(kj::mv(onEnded), peerOf(connection)) {
+    requireValid(options.limits);
   }
   KJ_DISALLOW_COPY(Guard);
-
-  const Options &options() const { return options_; }
 
   /* The promise of what a function makes of a message. */
   template <typename Take>
@@ -129,11 +227,17 @@ class Guard final {
   Taken<Take> next(kj::ArrayPtr<kj::AutoCloseFd> space, bool tableFirst, Take take) {
     release();
     space_ = space;
-    tableFirst_ = tableFirst;
+    // (overlaps are looked for in a frame that is there)
+    tableFirst_ = tableFirst && !options_.exclusive;
     if (options_.paced && writes_ > 0) {
       return afterWrite().then([this, take = kj::mv(take)]() mutable { return begin(take); });
     }
     return begin(take);
+  }
+
+  /* The limits for libcapnp to read the message. */
+  capnp::ReaderOptions readerOptions(capnp::ReaderOptions atLeast) const {
+    return capvet::readerOptions(report_, options_.readings, atLeast);
   }
 
   /* The message, with its table, or the table alone if `rest()` isn't 0. */
@@ -163,8 +267,6 @@ class Guard final {
     return receive(required, take);
   }
 
-  const capvet_report &report() const { return report_; }
-
   /* The file descriptors of the message, which are reported once. */
   size_t takeFiles() {
     const size_t count = fileCount_;
@@ -180,7 +282,6 @@ class Guard final {
    *   start  writes to the connection */
   template <typename Start>
   kj::Promise<void> write(Start start) {
-    if (options_.timer == nullptr && !options_.paced) return start();
     if (auto *exception = valueOf(dropped_)) return kj::cp(*exception);
     auto writing = start();
     beginWrite();
@@ -196,6 +297,10 @@ class Guard final {
   // Most messages are read by one call, with the first bytes of those after them.
   static constexpr size_t CAPACITY = 8192;
 
+  // The most messages whose replies may not be written yet. A client that waits for each result sends two at a time: what
+  // ends one call, and the next call.
+  static constexpr uint32_t MOST_OWED = 2;
+
   const kj::byte *bytes() const { return large_.size() > 0 ? large_.asBytes().begin() : buffer_ + start_; }
 
   // The bytes that came of this message and, in the buffer, of those after it.
@@ -203,6 +308,7 @@ class Guard final {
 
   // Forgets the message that was read.
   void release() {
+    countRead(length_);
     // (a large message is alone in its words, which the reader may have taken)
     if (length_ > CAPACITY) {
       large_ = nullptr;
@@ -214,6 +320,12 @@ class Guard final {
     }
     length_ = fileCount_ = 0;
     hasBegun_ = false;
+  }
+
+  // Counts a message of this length that was read, unless it is 0.
+  void countRead(size_t length) {
+    number_ += length > 0;
+    offset_ += length;
   }
 
   // The reason why nothing more can be read, if there is one.
@@ -238,10 +350,11 @@ class Guard final {
       report_.input_required = sizeof(capnp::word);
       return receive(sizeof(capnp::word), take);
     }
-    const auto answer = capvet_vet(bytes(), held_, &options_.limits, &report_);
+    if (mayOwe()) return afterReplies(take);
+    const auto answer = detail::vet(held(), limits_, options_.exclusive, report_);
     if (answer == CAPVET_OK) {
       length_ = report_.length;
-      return take(true);
+      return give(take);
     }
     if (answer == CAPVET_TRUNCATED) {
       const size_t required = report_.input_required;
@@ -249,10 +362,40 @@ class Guard final {
       // (what is required is the frame then, since no table is so long)
       length_ = (numberAt(0) + 1) / 2 * sizeof(capnp::word) + sizeof(capnp::word);
       rest_ = required - length_;
-      return take(true);
+      return give(take);
     }
     // (a frame that is refused has no length)
-    return refuse(answer, Cause::MESSAGE, held().slice(0, report_.length > 0 ? report_.length : held_));
+    return refuse(answer, Cause::REFUSED, held().slice(0, report_.length > 0 ? report_.length : held_));
+  }
+
+  // Gives a message, or its table.
+  template <typename Take>
+  decltype(kj::instance<Take &>()(true)) give(Take &take) {
+    if (timer_.now() != given_) {
+      given_ = timer_.now();
+      owed_ = 0;
+    }
+    owed_ += options_.paced;
+    return take(true);
+  }
+
+  // Whether libcapnp may still have to write the replies to MOST_OWED messages. 1.1.0 and 1.5.0 begin to write them when
+  // nothing else is left to do, so not while there is a message to read. Only then does the event loop look at its files and
+  // its clock. Until then the clock has the same time.
+  bool mayOwe() const { return owed_ >= MOST_OWED && timer_.now() == given_; }
+
+  // Goes on when these replies are written.
+  template <typename Take>
+  Taken<Take> afterReplies(Take &take) {
+    // (a message without its files is not whole)
+    isWithin_ = fileCount_ > 0;
+    // (the clock gives a time that has come when nothing else is left to do)
+    return timer_.afterDelay(0 * kj::SECONDS).then([this, take = kj::mv(take)]() mutable -> Taken<Take> {
+      isWithin_ = false;
+      owed_ = 0;
+      if (writes_ == 0) return advance(take);
+      return afterWrite().then([this, take = kj::mv(take)]() mutable { return advance(take); });
+    });
   }
 
   // Reads until `required` bytes of this message are held.
@@ -265,7 +408,7 @@ class Guard final {
     auto reading = isWithin_ ? inTime(connection_.tryRead(end(), 1, mostFor(missing))) : readFirst(missing);
     return reading.then(
         [this, required, take = kj::mv(take)](size_t count) mutable -> Taken<Take> {
-          isWithin_ = false;
+          isWithin_ = isIdle_ = false;
           held_ += count;
           if (count > 0) return held_ < required ? receive(required, take) : advance(take);
           if (held_ > 0) return refuse(CAPVET_TRUNCATED, isLate_ ? Cause::LATE : Cause::CUT, held());
@@ -285,13 +428,14 @@ class Guard final {
               isWithin_ = false;
               if (more > 0 && count + more < rest_) return receiveInto(place, count + more, take);
               if (more > 0 && areAccepted(place)) {
+                countRead(length_ + rest_);
                 start_ = held_ = length_ = rest_ = 0;
                 return take(true);
               }
               keep(place, count + more);
               if (more == 0) return refuse(CAPVET_TRUNCATED, isLate_ ? Cause::LATE : Cause::CUT, held());
-              const auto verdict = capvet_vet(bytes(), held_, &options_.limits, &report_);
-              return refuse(verdict, Cause::MESSAGE, held());
+              const auto verdict = capvet_vet(bytes(), held_, &limits_, &report_);
+              return refuse(verdict, Cause::REFUSED, held());
             },
             [this, place, count](kj::Exception &&exception) -> Taken<Take> {
               keep(place, count);
@@ -345,7 +489,18 @@ class Guard final {
     return large_.size() > 0 || files_ != nullptr ? missing : CAPACITY - start_ - held_;
   }
 
+  // A read of the first bytes of a message, which ends if the connection is idle.
   kj::Promise<size_t> readFirst(size_t missing) {
+    if (options_.idle == 0 * kj::SECONDS) return readBegin(missing);
+    idleSince_ = timer_.now();
+    if (!isWatchingIdle_) {
+      isWatchingIdle_ = true;
+      watchingIdle_ = watchIdle().eagerlyEvaluate(nullptr);
+    }
+    return begins_.wrap(readBegin(missing));
+  }
+
+  kj::Promise<size_t> readBegin(size_t missing) {
     if (files_ == nullptr) return connection_.tryRead(end(), 1, mostFor(missing));
     auto reading = files_->tryReadWithFds(end(), 1, missing, space_.begin(), space_.size());
     return reading.then([this](kj::AsyncCapabilityStream::ReadResult read) {
@@ -356,10 +511,9 @@ class Guard final {
 
   // A read that ends with no bytes at the deadline.
   kj::Promise<size_t> inTime(kj::Promise<size_t> &&reading) {
-    if (options_.timer == nullptr) return kj::mv(reading);
-    if (!hasBegun_) begun_ = options_.timer->now();
+    if (!hasBegun_) begun_ = timer_.now();
     hasBegun_ = true;
-    auto waiting = options_.timer->atTime(begun_ + options_.deadline);
+    auto waiting = timer_.atTime(begun_ + options_.deadline);
     return reading.exclusiveJoin(waiting.then([this]() -> size_t {
       isLate_ = true;
       return 0;
@@ -368,31 +522,40 @@ class Guard final {
 
   // The connection has failed.
   kj::Exception fail(kj::Exception &&exception) {
+    if (isIdle_) return dropIdle();
     ending_.end(exception);
     close();
     if (held_ > 0) {
-      auto refusal = refusalOf(CAPVET_TRUNCATED, Cause::CUT, held());
+      Refusal refusal;
+      fill(refusal, CAPVET_TRUNCATED, held());
       closeFiles();
-      ending_.report(refusal);
+      Ended ended(Cause::CUT, refusal);
+      ending_.report(ended);
     }
     return kj::mv(exception);
   }
 
   KJ_NOINLINE kj::Exception refuse(capvet_answer answer, Cause cause, kj::ArrayPtr<const kj::byte> bytes) {
-    auto refusal = refusalOf(answer, cause, bytes);
+    Refusal refusal;
+    fill(refusal, answer, bytes);
     closeFiles();
     close();
-    return ending_.refuse(refusal);
+    return ending_.end(Ended(cause, refusal));
   }
 
-  Refusal refusalOf(capvet_answer answer, Cause cause, kj::ArrayPtr<const kj::byte> bytes) {
-    Refusal refusal;
+  KJ_NOINLINE kj::Exception dropIdle() {
+    closeFiles();
+    close();
+    return ending_.end(Ended(Cause::IDLE));
+  }
+
+  void fill(Refusal &refusal, capvet_answer answer, kj::ArrayPtr<const kj::byte> bytes) const {
     refusal.answer = answer;
     refusal.report = report_;
-    refusal.cause = cause;
-    refusal.bytes = bytes;
+    refusal.number = number_;
+    refusal.offset = offset_;
+    refusal.unvetted = bytes;
     refusal.limits = options_.limits;
-    return refusal;
   }
 
   void closeFiles() {
@@ -406,8 +569,8 @@ class Guard final {
   }
 
   void beginWrite() {
-    if (writes_++ > 0 || options_.timer == nullptr) return;
-    since_ = options_.timer->now();
+    if (writes_++ > 0) return;
+    since_ = timer_.now();
     if (isWatching_) return;
     isWatching_ = true;
     watching_ = watch().eagerlyEvaluate(nullptr);
@@ -415,14 +578,15 @@ class Guard final {
 
   void endWrite() {
     if (--writes_ > 0) return;
+    if (!begins_.isEmpty()) idleSince_ = timer_.now();
     if (auto *waiting = valueOf(waiting_)) (*waiting)->fulfill();
     waiting_ = kj::Maybe<kj::Own<kj::PromiseFulfiller<void>>>();
   }
 
   // Waits until a write has taken too long. One timer serves for all writes that begin before it is over.
   kj::Promise<void> watch() {
-    return options_.timer->atTime(since_ + options_.unread).then([this]() -> kj::Promise<void> {
-      const bool isOver = options_.timer->now() - since_ >= options_.unread;
+    return timer_.atTime(since_ + options_.unread).then([this]() -> kj::Promise<void> {
+      const bool isOver = timer_.now() - since_ >= options_.unread;
       if (writes_ > 0 && !isOver) return watch();
       isWatching_ = false;
       if (writes_ > 0) drop();
@@ -430,17 +594,35 @@ class Guard final {
     });
   }
 
+  // Waits until there was no message for too long. One timer serves for all reads that begin before it is over.
+  kj::Promise<void> watchIdle() {
+    return timer_.atTime(idleSince_ + options_.idle).then([this]() -> kj::Promise<void> {
+      const bool isWaiting = !begins_.isEmpty();
+      if (writes_ > 0) idleSince_ = timer_.now();
+      if (isWaiting && timer_.now() - idleSince_ < options_.idle) return watchIdle();
+      isWatchingIdle_ = false;
+      if (isWaiting) endRead();
+      return kj::READY_NOW;
+    });
+  }
+
+  // The read that waits fails, and reports why.
+  KJ_NOINLINE void endRead() {
+    isIdle_ = true;
+    begins_.cancel(exceptionOf(Ended(Cause::IDLE)));
+  }
+
   // No more is read. The peer has some time to read what is written.
   void close() {
-    if (options_.timer == nullptr || isClosing_) return;
+    if (isClosing_) return;
     isClosing_ = true;
-    closing_ = options_.timer->afterDelay(options_.unread).then([this]() { drop(); }).eagerlyEvaluate(nullptr);
+    closing_ = timer_.afterDelay(options_.unread).then([this]() { drop(); }).eagerlyEvaluate(nullptr);
   }
 
   // What is being written fails, and so does all that comes.
   KJ_NOINLINE void drop() {
     if (valueOf(dropped_) != nullptr) return;
-    const auto exception = exceptionOf(unread());
+    const auto exception = exceptionOf(Ended(Cause::UNREAD));
     dropped_ = kj::cp(exception);
     ending_.end(exception);
     // (not all connections are sockets, and the peer may be gone)
@@ -450,21 +632,18 @@ class Guard final {
     canceler_.cancel(exception);
   }
 
-  static Refusal unread() {
-    Refusal refusal;
-    refusal.cause = Cause::UNREAD;
-    return refusal;
-  }
-
   // (within the promise of the write, so that the callback may destroy this)
   KJ_NOINLINE void reportUnread() {
-    auto refusal = unread();
-    ending_.report(refusal);
+    Ended ended(Cause::UNREAD);
+    ending_.report(ended);
   }
 
   kj::AsyncIoStream &connection_;
   kj::AsyncCapabilityStream *files_;
-  Options options_;
+  kj::Timer &timer_;
+  const StreamOptions options_;
+  // (the buffer may have messages after the one that is vetted)
+  const capvet_limits limits_;
   Ending ending_;
 
   // The bytes of a message are in the buffer from `start_` on, or alone in `large_`.
@@ -475,21 +654,30 @@ class Guard final {
   size_t length_ = 0, rest_ = 0;
   bool tableFirst_ = false;
   capvet_report report_ = {};
+  // How many messages, and how many bytes of them, were read before this one.
+  uint64_t number_ = 0, offset_ = 0;
   kj::ArrayPtr<kj::AutoCloseFd> space_ = nullptr;
   size_t fileCount_ = 0;
   // Whether a read inside a message has not ended.
   bool isWithin_ = false;
   bool hasBegun_ = false, isLate_ = false;
   kj::TimePoint begun_ = kj::origin<kj::TimePoint>();
+  // Whether the read of a message's first bytes was canceled, since none came for too long.
+  bool isIdle_ = false;
+  kj::TimePoint idleSince_ = kj::origin<kj::TimePoint>();
+
+  // How many messages were given, and the time of the event loop then.
+  uint32_t owed_ = 0;
+  kj::TimePoint given_ = kj::origin<kj::TimePoint>();
 
   uint32_t writes_ = 0;
   kj::TimePoint since_ = kj::origin<kj::TimePoint>();
   kj::Maybe<kj::Own<kj::PromiseFulfiller<void>>> waiting_;
   kj::Maybe<kj::Exception> dropped_;
-  bool isWatching_ = false, isClosing_ = false;
-  kj::Promise<void> watching_ = nullptr, closing_ = nullptr;
-  // (destroyed first: what it cancels uses the rest)
-  kj::Canceler canceler_;
+  bool isWatching_ = false, isWatchingIdle_ = false, isClosing_ = false;
+  kj::Promise<void> watching_ = nullptr, watchingIdle_ = nullptr, closing_ = nullptr;
+  // (destroyed first: what they cancel uses the rest)
+  kj::Canceler canceler_, begins_;
 };
 
 /* The segments that another reader of a message holds. Most messages have one. */
@@ -507,8 +695,15 @@ class Segments {
     return all_.size() == 0 ? kj::arrayPtr(&first_, 1) : kj::arrayPtr(all_.begin(), all_.size());
   }
 
-  capvet_answer vet(const capvet_limits &limits, capvet_report &report) const {
-    return capvet_vet_segments(all().begin(), all().size(), &limits, &report);
+  capvet_answer vet(const Options &options, capvet_report &report) const {
+    const auto answer = capvet_vet_segments(all().begin(), all().size(), &options.limits, &report);
+    if (answer != CAPVET_OK || !options.exclusive) return answer;
+    // (the call for overlaps reads a frame, whose length has the table too)
+    const auto frame = frameOf(all());
+    const auto length = report.length;
+    const auto found = detail::vet(frame.asBytes(), options.limits, true, report);
+    report.length = length;
+    return found;
   }
 
   kj::ArrayPtr<const capnp::word> get(unsigned int id) const {
@@ -562,141 +757,6 @@ class HeldMessageReader final : public capnp::FlatArrayMessageReader {
   kj::Array<capnp::word> kept_;
 };
 
-/* A stream that vets each message that is read, before its reader gets it. Writing passes through.
- *
- * A refused message ends the stream. `onRefused` is called, file descriptors that came with the message are closed,
- * and this read and all later ones throw `exceptionOf` the refusal. The RPC system then sends the exception's
- * description to the peer, and closes the connection as soon as the peer has read what was written before. With
- * `options.timer` that takes at most `options.unread`.
- *
- * At most `limits.message_words` words are held of a message, and 8 KiB besides. CAPVET_ALLOW_TRAILING has no effect.
- * libcapnp's limits for a message are at least those that are passed to tryReadMessage (`receiveOptions` of
- * TwoPartyVatNetwork), and are raised to what the message needs.
- *
- * The constructors throw if the limits are not valid. */
-class VettingStream final : public capnp::MessageStream {
-  using Read = kj::Maybe<capnp::MessageReaderAndFds>;
-
- public:
-  using OnRefused = capvet::OnRefused;
-  using capnp::MessageStream::tryReadMessage;
-  using capnp::MessageStream::writeMessage;
-  using capnp::MessageStream::writeMessages;
-
-  /* The messages of a connection, as capnp::AsyncIoMessageStream has them. The connection has to outlive this, and this
-   * each promise of a read. Nothing else may read from it: bytes of later messages are held here. */
-  explicit VettingStream(kj::AsyncIoStream &connection, const Options &options = {}, OnRefused onRefused = ignore)
-      : inner_(kj::heap<capnp::AsyncIoMessageStream>(connection)),
-        guard_(kj::heap<Guard>(connection, nullptr, options, kj::mv(onRefused))) {}
-
-  /* The same with file descriptors, as capnp::AsyncCapabilityMessageStream has them. */
-  explicit VettingStream(kj::AsyncCapabilityStream &connection, const Options &options = {},
-                         OnRefused onRefused = ignore)
-      : inner_(kj::heap<capnp::AsyncCapabilityMessageStream>(connection)),
-        guard_(kj::heap<Guard>(connection, &connection, options, kj::mv(onRefused))) {}
-
-  /* The messages of any other stream, which has to outlive this. Its own exceptions, such as those of a message that is
-   * cut or larger than `limits.message_words`, end this too, but `onRefused` isn't called. Of the options only the first
-   * two count. It takes longer: each message gets a reader of its own, which asks the stream's reader for each segment
-   * once. */
-  explicit VettingStream(capnp::MessageStream &inner, const Options &options = {}, OnRefused onRefused = ignore)
-      : inner_(&inner, kj::NullDisposer::instance), around_(kj::heap<Around>(options, kj::mv(onRefused))) {}
-
-  KJ_DISALLOW_COPY(VettingStream);
-
-  kj::Promise<Read> tryReadMessage(kj::ArrayPtr<kj::AutoCloseFd> fdSpace, capnp::ReaderOptions atLeast,
-                                   kj::ArrayPtr<capnp::word> scratchSpace) override {
-    if (around_.get() != nullptr) return readFromInner(fdSpace, atLeast, scratchSpace);
-    auto onRead = [this, fdSpace, atLeast, scratchSpace](bool isThere) mutable -> Read {
-      if (!isThere) return {};
-      auto files = fdSpace.slice(0, guard_->takeFiles());
-      return capnp::MessageReaderAndFds{readerOf(atLeast, scratchSpace), files};
-    };
-    return guard_->next(fdSpace, false, kj::mv(onRead));
-  }
-
-  kj::Promise<void> writeMessage(kj::ArrayPtr<const int> fds,
-                                 kj::ArrayPtr<const kj::ArrayPtr<const capnp::word>> segments) override {
-    return write([&]() { return inner_->writeMessage(fds, segments); });
-  }
-
-  kj::Promise<void> writeMessages(kj::ArrayPtr<kj::ArrayPtr<const kj::ArrayPtr<const capnp::word>>> messages) override {
-    return write([&]() { return inner_->writeMessages(messages); });
-  }
-
-  kj::Maybe<int> getSendBufferSize() override { return inner_->getSendBufferSize(); }
-  kj::Promise<void> end() override { return inner_->end(); }
-
- private:
-  // The state for another stream of messages.
-  struct Around {
-    Around(const Options &vetting, OnRefused &&onRefused)
-        : options(vetting), ending(vetting, kj::mv(onRefused), kj::String()) {}
-
-    Options options;
-    Ending ending;
-  };
-
-  template <typename Start>
-  kj::Promise<void> write(Start start) {
-    return around_.get() != nullptr ? start() : guard_->write(kj::mv(start));
-  }
-
-  // The reader of a message that the guard holds.
-  kj::Own<capnp::MessageReader> readerOf(capnp::ReaderOptions atLeast, kj::ArrayPtr<capnp::word> scratch) {
-    const auto needed = readerOptionsOfFrame(guard_->report(), guard_->options(), atLeast);
-    const auto message = guard_->message();
-    const size_t count = message.size() / sizeof(capnp::word);
-    auto words = guard_->takeLarge();
-    auto place = words.asPtr();
-    if (words.size() == 0) {
-      place = scratch.slice(0, std::min(count, scratch.size()));
-      if (place.size() < count) place = words = kj::heapArray<capnp::word>(count);
-      std::memcpy(place.begin(), message.begin(), message.size());
-    }
-    return kj::heap<HeldMessageReader>(place, kj::mv(words), needed);
-  }
-
-  // Reads a message of another stream of messages. A limit of the options bounds what its reader holds.
-  kj::Promise<Read> readFromInner(kj::ArrayPtr<kj::AutoCloseFd> fdSpace, capnp::ReaderOptions atLeast,
-                                  kj::ArrayPtr<capnp::word> scratchSpace) {
-    if (auto *exception = around_->ending.exception()) return kj::cp(*exception);
-    auto held = atLeast;
-    held.traversalLimitInWords = around_->options.limits.message_words;
-    auto onRead = [this, atLeast](Read &&read) -> kj::Promise<Read> {
-      if (auto *message = valueOf(read)) return vet(*message, atLeast);
-      return Read();
-    };
-    auto onFailed = [this](kj::Exception &&exception) -> kj::Promise<Read> {
-      around_->ending.end(exception);
-      return kj::mv(exception);
-    };
-    return inner_->tryReadMessage(fdSpace, held, scratchSpace).then(kj::mv(onRead), kj::mv(onFailed));
-  }
-
-  // (its reader may give each segment only once)
-  kj::Promise<Read> vet(capnp::MessageReaderAndFds &message, capnp::ReaderOptions atLeast) {
-    Segments segments(*message.reader);
-    Refusal refusal;
-    refusal.answer = segments.vet(around_->options.limits, refusal.report);
-    if (refusal.answer != CAPVET_OK) {
-      refusal.segments = segments.all();
-      refusal.limits = around_->options.limits;
-      for (auto &fd : message.fds) fd = nullptr;
-      return around_->ending.refuse(refusal);
-    }
-    const uint64_t words = refusal.report.length / sizeof(capnp::word);
-    const auto needed = readerOptions(refusal.report, words, around_->options.readings, atLeast);
-    auto reader = kj::heap<VettedMessageReader>(kj::mv(message.reader), kj::mv(segments), needed);
-    return Read(capnp::MessageReaderAndFds{kj::mv(reader), message.fds});
-  }
-
-  kj::Own<capnp::MessageStream> inner_;
-  // (one of these two)
-  kj::Own<Guard> guard_;
-  kj::Own<Around> around_;
-};
-
 /* A connection that vets the bytes that are read from it: those of a message can be read when it is accepted. Writing
  * passes through. It is for whatever reads messages from a stream of bytes, such as capnp::TwoPartyServer. */
 template <typename Stream>
@@ -728,9 +788,9 @@ class VettingBytes : public Stream {
   void getpeername(sockaddr *address, unsigned int *length) override { connection_->getpeername(address, length); }
 
  protected:
-  VettingBytes(kj::Own<Stream> &&connection, kj::AsyncCapabilityStream *files, const Options &options,
-               OnRefused &&onRefused)
-      : connection_(kj::mv(connection)), guard_(*connection_, files, options, kj::mv(onRefused)) {}
+  VettingBytes(kj::Own<Stream> &&connection, kj::AsyncCapabilityStream *files, kj::Timer &timer,
+               const StreamOptions &options, OnEnded &&onEnded)
+      : connection_(kj::mv(connection)), guard_(*connection_, files, timer, options, kj::mv(onEnded)) {}
 
   /* Reads bytes of accepted messages, and the file descriptors of a message with its first byte. */
   kj::Promise<size_t> readVetted(kj::ArrayPtr<kj::byte> buffer, size_t least, kj::ArrayPtr<kj::AutoCloseFd> space) {
@@ -790,26 +850,177 @@ class VettingBytes : public Stream {
   size_t done_ = 0;
 };
 
+}  // namespace detail
+
+/* A stream that vets each message that is read, before its reader gets it. Writing passes through.
+ *
+ * A refused message ends the stream. `onEnded` is called, file descriptors that came with the message are closed,
+ * and this read and all later ones throw `exceptionOf` the end. The RPC system then sends the exception's
+ * description to the peer, and closes the connection as soon as the peer has read what was written before. That takes
+ * at most `options.unread`.
+ *
+ * At most `limits.message_words` words are held of a message, and 8 KiB besides. libcapnp's limits for a message are at
+ * least those that are passed to tryReadMessage (`receiveOptions` of TwoPartyVatNetwork), and are raised to what the
+ * message needs.
+ *
+ * The constructors throw if the limits are not valid. */
+class VettingStream final : public capnp::MessageStream {
+  using Read = kj::Maybe<capnp::MessageReaderAndFds>;
+
+ public:
+  using capnp::MessageStream::tryReadMessage;
+  using capnp::MessageStream::writeMessage;
+  using capnp::MessageStream::writeMessages;
+
+  /* The messages of a connection, as capnp::AsyncIoMessageStream has them. Nothing else may read from it: bytes of later
+   * messages are held here.
+   *
+   *   connection  It has to outlive this, and this each promise of a read.
+   *   timer       The clock of the event loop, such as `provider->getTimer()`. It has to outlive this. If a program advances
+   *               it by hand, a paced stream reads on only then.
+   *   options     The side of this stream, such as `Side::SERVER`, or a StreamOptions. */
+  VettingStream(kj::AsyncIoStream &connection, kj::Timer &timer, const StreamOptions &options,
+                OnEnded onEnded = detail::ignore<Ended>)
+      : inner_(kj::heap<capnp::AsyncIoMessageStream>(connection)),
+        guard_(kj::heap<detail::Guard>(connection, nullptr, timer, options, kj::mv(onEnded))) {}
+
+  /* The same with file descriptors, as capnp::AsyncCapabilityMessageStream has them. */
+  VettingStream(kj::AsyncCapabilityStream &connection, kj::Timer &timer, const StreamOptions &options,
+                OnEnded onEnded = detail::ignore<Ended>)
+      : inner_(kj::heap<capnp::AsyncCapabilityMessageStream>(connection)),
+        guard_(kj::heap<detail::Guard>(connection, &connection, timer, options, kj::mv(onEnded))) {}
+
+  /* The messages of any other stream, which has to outlive this. Nothing bounds the time of its peer: that is the work of the
+   * other stream. Its own exceptions, such as those of a message that is cut or larger than `limits.message_words`, end this
+   * too, but `onEnded` isn't called. It takes longer: each message gets a reader of its own, which asks the stream's reader for
+   * each segment once. */
+  explicit VettingStream(capnp::MessageStream &inner, const Options &options = {},
+                         OnEnded onEnded = detail::ignore<Ended>)
+      : inner_(&inner, kj::NullDisposer::instance), around_(kj::heap<Around>(options, kj::mv(onEnded))) {}
+
+  KJ_DISALLOW_COPY(VettingStream);
+
+  kj::Promise<Read> tryReadMessage(kj::ArrayPtr<kj::AutoCloseFd> fdSpace, capnp::ReaderOptions atLeast,
+                                   kj::ArrayPtr<capnp::word> scratchSpace) override {
+    if (around_.get() != nullptr) return readFromInner(fdSpace, atLeast, scratchSpace);
+    auto onRead = [this, fdSpace, atLeast, scratchSpace](bool isThere) mutable -> Read {
+      if (!isThere) return {};
+      auto files = fdSpace.slice(0, guard_->takeFiles());
+      return capnp::MessageReaderAndFds{readerOf(atLeast, scratchSpace), files};
+    };
+    return guard_->next(fdSpace, false, kj::mv(onRead));
+  }
+
+  kj::Promise<void> writeMessage(kj::ArrayPtr<const int> fds,
+                                 kj::ArrayPtr<const kj::ArrayPtr<const capnp::word>> segments) override {
+    return write([&]() { return inner_->writeMessage(fds, segments); });
+  }
+
+  kj::Promise<void> writeMessages(kj::ArrayPtr<kj::ArrayPtr<const kj::ArrayPtr<const capnp::word>>> messages) override {
+    return write([&]() { return inner_->writeMessages(messages); });
+  }
+
+  kj::Maybe<int> getSendBufferSize() override { return inner_->getSendBufferSize(); }
+  kj::Promise<void> end() override { return inner_->end(); }
+
+ private:
+  // The state for another stream of messages.
+  struct Around {
+    Around(const Options &vetting, OnEnded &&onEnded) : options(vetting), ending(kj::mv(onEnded), kj::String()) {
+      detail::requireValid(options.limits);
+    }
+
+    const Options options;
+    detail::Ending ending;
+    // How many messages were read, and their bytes.
+    uint64_t number = 0, offset = 0;
+  };
+
+  template <typename Start>
+  kj::Promise<void> write(Start start) {
+    return around_.get() != nullptr ? start() : guard_->write(kj::mv(start));
+  }
+
+  // The reader of a message that the guard holds.
+  kj::Own<capnp::MessageReader> readerOf(capnp::ReaderOptions atLeast, kj::ArrayPtr<capnp::word> scratch) {
+    const auto needed = guard_->readerOptions(atLeast);
+    const auto message = guard_->message();
+    const size_t count = message.size() / sizeof(capnp::word);
+    auto words = guard_->takeLarge();
+    auto place = words.asPtr();
+    if (words.size() == 0) {
+      place = scratch.slice(0, std::min(count, scratch.size()));
+      if (place.size() < count) place = words = kj::heapArray<capnp::word>(count);
+      std::memcpy(place.begin(), message.begin(), message.size());
+    }
+    return kj::heap<detail::HeldMessageReader>(place, kj::mv(words), needed);
+  }
+
+  // Reads a message of another stream of messages. A limit of the options bounds what its reader holds.
+  kj::Promise<Read> readFromInner(kj::ArrayPtr<kj::AutoCloseFd> fdSpace, capnp::ReaderOptions atLeast,
+                                  kj::ArrayPtr<capnp::word> scratchSpace) {
+    if (auto *exception = around_->ending.exception()) return kj::cp(*exception);
+    auto held = atLeast;
+    held.traversalLimitInWords = around_->options.limits.message_words;
+    auto onRead = [this, atLeast](Read &&read) -> kj::Promise<Read> {
+      if (auto *message = detail::valueOf(read)) return vet(*message, atLeast);
+      return Read();
+    };
+    auto onFailed = [this](kj::Exception &&exception) -> kj::Promise<Read> {
+      around_->ending.end(exception);
+      return kj::mv(exception);
+    };
+    return inner_->tryReadMessage(fdSpace, held, scratchSpace).then(kj::mv(onRead), kj::mv(onFailed));
+  }
+
+  // (its reader may give each segment only once)
+  kj::Promise<Read> vet(capnp::MessageReaderAndFds &message, capnp::ReaderOptions atLeast) {
+    detail::Segments segments(*message.reader);
+    Refusal refusal;
+    auto &report = refusal.report;
+    refusal.answer = segments.vet(around_->options, report);
+    if (refusal.answer != CAPVET_OK) {
+      refusal.number = around_->number;
+      refusal.offset = around_->offset;
+      refusal.segments = segments.all();
+      refusal.limits = around_->options.limits;
+      for (auto &fd : message.fds) fd = nullptr;
+      return around_->ending.end(Ended(Cause::REFUSED, refusal));
+    }
+    around_->number++;
+    // (with the table, which the report leaves out)
+    around_->offset += report.length + sizeof(capnp::word) * (report.segments / 2 + 1);
+    const auto needed = capvet::readerOptions(report, around_->options.readings, atLeast);
+    auto reader = kj::heap<detail::VettedMessageReader>(kj::mv(message.reader), kj::mv(segments), needed);
+    return Read(capnp::MessageReaderAndFds{kj::mv(reader), message.fds});
+  }
+
+  kj::Own<capnp::MessageStream> inner_;
+  // (one of these two)
+  kj::Own<detail::Guard> guard_;
+  kj::Own<Around> around_;
+};
+
 /* The connection to pass to a server that reads messages by itself:
  *
- *     server.accept(kj::heap<capvet::VettingIoStream>(kj::mv(connection), options));
+ *     server.accept(kj::heap<capvet::VettingIoStream>(kj::mv(connection), timer, Side::SERVER));
  *
  * A refused message ends it as it ends a VettingStream. No byte of it can be read. There is one exception: a reader that
  * asks for the first word alone, as libcapnp does, gets the table of a message of more than 8 KiB before its verdict. The
  * segments are then read to their place, and not held twice. */
-class VettingIoStream final : public VettingBytes<kj::AsyncIoStream> {
+class VettingIoStream final : public detail::VettingBytes<kj::AsyncIoStream> {
  public:
-  explicit VettingIoStream(kj::Own<kj::AsyncIoStream> connection, const Options &options = {},
-                           OnRefused onRefused = ignore)
-      : VettingBytes(kj::mv(connection), nullptr, options, kj::mv(onRefused)) {}
+  VettingIoStream(kj::Own<kj::AsyncIoStream> connection, kj::Timer &timer, const StreamOptions &options,
+                  OnEnded onEnded = detail::ignore<Ended>)
+      : VettingBytes(kj::mv(connection), nullptr, timer, options, kj::mv(onEnded)) {}
 };
 
 /* The same for a connection with file descriptors. It passes on those of messages, and reads no streams. */
-class VettingCapabilityStream final : public VettingBytes<kj::AsyncCapabilityStream> {
+class VettingCapabilityStream final : public detail::VettingBytes<kj::AsyncCapabilityStream> {
  public:
-  explicit VettingCapabilityStream(kj::Own<kj::AsyncCapabilityStream> connection, const Options &options = {},
-                                   OnRefused onRefused = ignore)
-      : VettingCapabilityStream(*connection, kj::mv(connection), options, kj::mv(onRefused)) {}
+  VettingCapabilityStream(kj::Own<kj::AsyncCapabilityStream> connection, kj::Timer &timer, const StreamOptions &options,
+                          OnEnded onEnded = detail::ignore<Ended>)
+      : VettingCapabilityStream(*connection, kj::mv(connection), timer, options, kj::mv(onEnded)) {}
 
   kj::Promise<ReadResult> tryReadWithFds(void *buffer, size_t least, size_t most, kj::AutoCloseFd *fds,
                                          size_t mostFds) override {
@@ -836,8 +1047,8 @@ class VettingCapabilityStream final : public VettingBytes<kj::AsyncCapabilityStr
 
  private:
   VettingCapabilityStream(kj::AsyncCapabilityStream &files, kj::Own<kj::AsyncCapabilityStream> &&connection,
-                          const Options &options, OnRefused &&onRefused)
-      : VettingBytes(kj::mv(connection), &files, options, kj::mv(onRefused)) {}
+                          kj::Timer &timer, const StreamOptions &options, OnEnded &&onEnded)
+      : VettingBytes(kj::mv(connection), &files, timer, options, kj::mv(onEnded)) {}
 };
 
 }  // namespace CAPVET_KJ_VERSION
