@@ -54,9 +54,21 @@ static inline capvet_go_result capvet_go_frame(const uint8_t *bytes, size_t leng
   return result;
 }
 
-static inline capvet_go_result capvet_go_is_canonical(const uint8_t *bytes, size_t length, capvet_limits limits) {
+static inline capvet_go_result capvet_go_check_canonical(const uint8_t *bytes, size_t length, capvet_limits limits) {
   capvet_go_result result = {0};
-  result.answer = capvet_is_canonical(bytes, length, &limits, &result.report);
+  result.answer = capvet_check_canonical(bytes, length, &limits, &result.report);
+  return result;
+}
+
+static inline capvet_go_result capvet_go_first_difference(const uint8_t *bytes, size_t length, capvet_limits limits) {
+  capvet_go_result result = {0};
+  result.answer = capvet_first_difference(bytes, length, &limits, &result.report);
+  return result;
+}
+
+static inline capvet_go_result capvet_go_check_words(const uint8_t *words, size_t length, capvet_limits limits) {
+  capvet_go_result result = {0};
+  result.answer = capvet_check_canonical_words(words, length, &limits, &result.report);
   return result;
 }
 
@@ -69,13 +81,13 @@ static inline capvet_go_result capvet_go_canonical(const uint8_t *bytes, size_t 
 
 static inline capvet_go_result capvet_go_pack(const uint8_t *bytes, size_t length, uint8_t *out, size_t out_size) {
   capvet_go_result result = {0};
-  result.answer = capvet_pack(bytes, length, out, out_size, &result.required);
+  result.answer = capvet_pack_words(bytes, length, out, out_size, &result.required);
   return result;
 }
 
 static inline capvet_go_result capvet_go_unpack(const uint8_t *bytes, size_t length, uint8_t *out, size_t out_size) {
   capvet_go_result result = {0};
-  result.answer = capvet_unpack(bytes, length, out, out_size, &result.required);
+  result.answer = capvet_unpack_words(bytes, length, out, out_size, &result.required);
   return result;
 }
 
@@ -86,17 +98,29 @@ static inline capvet_go_result capvet_go_pack_message(const uint8_t *bytes, size
   return result;
 }
 
-/* Where a segment is. */
-typedef struct capvet_go_place {
-  size_t offset;
-  size_t length;
-  capvet_answer answer;
-} capvet_go_place;
+static inline capvet_report capvet_go_report(uint64_t charge, uint64_t words, uint32_t depth) {
+  capvet_report report = {0};
+  report.charge = charge;
+  report.words = words;
+  report.depth = depth;
+  return report;
+}
 
-static inline capvet_go_place capvet_go_segment_at(const uint8_t *bytes, size_t length, uint32_t index) {
-  capvet_go_place place = {0};
-  place.answer = capvet_segment_at(bytes, length, index, &place.offset, &place.length);
-  return place;
+static inline uint64_t capvet_go_reader_words(uint64_t charge, uint64_t words, uint32_t readings) {
+  const capvet_report report = capvet_go_report(charge, words, 0);
+  return capvet_reader_words(&report, readings);
+}
+
+static inline uint32_t capvet_go_reader_nesting(uint32_t depth) {
+  const capvet_report report = capvet_go_report(0, 0, depth);
+  return capvet_reader_nesting(&report);
+}
+
+static inline capvet_go_result capvet_go_segments(const uint8_t *bytes, size_t length, capvet_limits limits,
+                                                  capvet_extent *extents, size_t count) {
+  capvet_go_result result = {0};
+  result.answer = capvet_segments(bytes, length, &limits, extents, count, &result.required, &result.report);
+  return result;
 }
 
 /* What a call for a node answers. */
@@ -146,6 +170,15 @@ static inline capvet_go_result capvet_go_explain(const uint8_t *bytes, size_t le
                                                  size_t text_size) {
   capvet_go_result result = {0};
   result.answer = capvet_explain(bytes, length, &limits, text, text_size, &result.required, &result.report);
+  return result;
+}
+
+static inline capvet_go_result capvet_go_explain_overlap(const uint8_t *bytes, size_t length, capvet_limits limits,
+                                                         uint32_t segment, uint32_t word, uint64_t number, char *text,
+                                                         size_t text_size) {
+  capvet_go_result result = {0};
+  result.answer = capvet_explain_overlap(bytes, length, &limits, segment, word, number, text, text_size, &result.required,
+                                         &result.report);
   return result;
 }
 

@@ -2,7 +2,7 @@
 //
 // Vet answers whether bytes are one message that is safe to traverse:
 //
-//	report, err := capvet.Vet(b, capvet.Limits{})
+//	message, err := capvet.Vet(b, nil)
 //	var refusal *capvet.Refusal
 //	if errors.As(err, &refusal) {
 //		log.Printf("refused %v at %v", refusal.Reason, refusal.Position)
@@ -10,7 +10,7 @@
 //
 // A nil error means that b is one message and nothing else, and that a reader can follow every pointer without leaving its
 // segment or looping. A full traversal then reads at most 4,096 words more than the segments have. Nothing is said
-// about the schema.
+// about the schema. A function that takes a Message takes only what was vetted.
 //
 // Any goroutine may call at any time. The functions only read the bytes that they are passed. If something writes these
 // bytes during a call, the answer means nothing and the process may be killed. So copy shared memory and mapped files
@@ -34,7 +34,7 @@ import (
 	"unsafe"
 )
 
-// Version returns the version of the library that is linked, such as "1.1.0".
+// Version returns the version of the library that is linked, such as "2.0.0".
 func Version() string {
 	v := uint32(C.capvet_version())
 	return fmt.Sprintf("%d.%d.%d", v>>16, v>>8&0xff, v&0xff)
@@ -77,95 +77,105 @@ func overlap(x, y []byte) bool {
 		uintptr(unsafe.Pointer(&y[0])) <= uintptr(unsafe.Pointer(&x[len(x)-1]))
 }
 
-// inputLength returns the length in bytes of the message that b starts with. Without trailing bytes it is that of b.
-func inputLength(b []byte, l Limits) (int, error) {
-	if !l.AllowTrailing || l.NoTable {
-		return len(b), nil
-	}
-	return FrameLength(b, l)
-}
-
-// Vet checks that b is one message that is safe to traverse. It allocates nothing, apart from an error.
+// Vet checks that b is one message that is safe to traverse, and nothing else. It allocates nothing, apart from an error
+// and the marks of Limits.Exclusive.
 //
 // The error is a *FrameError, a *Refusal or a *LimitsError. A *Refusal names the first pointer in preorder at which
 // anything is wrong. The work is bounded by len(b), unless Limits.AllowAmplified is set.
-func Vet(b []byte, l Limits) (Report, error) {
-	r := C.capvet_go_vet(pointer(b), C.size_t(len(b)), l.raw())
-	if r.answer != C.CAPVET_OK {
-		return Report{}, errorOf(&r, l)
+func Vet(b []byte, l *Limits) (Message, error) {
+	return vet(b, l, whole)
+}
+
+// VetPrefix checks the message that b begins with, as Vet does, and returns the bytes after it. They are not looked at.
+//
+// After a *Refusal rest is what follows the refused message. After another error it is b.
+func VetPrefix(b []byte, l *Limits) (m Message, rest []byte, err error) {
+	m, err = vet(b, l, prefix)
+	length := len(m.bytes)
+	if refusal, ok := err.(*Refusal); ok {
+		length = refusal.Length
 	}
-	return reportOf(&r.report), nil
+	return m, b[length:], asEnd(err)
+}
+
+// vet checks bytes that are a message or begin with one.
+func vet(b []byte, l *Limits, f form) (Message, error) {
+	var r C.capvet_go_result
+	answer(&r, b, l, f)
+	return messageOf(&r, b, l)
+}
+
+// messageOf returns the message of an answer about b, or why it is not accepted.
+func messageOf(r *C.capvet_go_result, b []byte, l *Limits) (Message, error) {
+	if r.answer != C.CAPVET_OK {
+		return Message{}, errorOf(r, b, l.orDefault())
+	}
+	return Message{bytes: b[:r.report.length:r.report.length], report: reportOf(&r.report)}, nil
+}
+
+// answer sets r to what the library answers about a message. (it is large, and a copy takes as long as a part of the call)
+func answer(r *C.capvet_go_result, b []byte, l *Limits, f form) {
+	if l == nil || !l.Exclusive {
+		*r = C.capvet_go_vet(pointer(b), C.size_t(len(b)), l.raw(f))
+		return
+	}
+	raw := l.raw(f)
+	*r = C.capvet_go_frame(pointer(b), C.size_t(len(b)), raw)
+	if r.answer != C.CAPVET_OK {
+		return
+	}
+	marks := make([]uint64, r.report.length/512+1) // CAPVET_MARKS_BOUND
+	*r = C.capvet_go_vet_exclusive(pointer(b), C.size_t(len(b)), raw, (*C.uint64_t)(&marks[0]), C.size_t(len(marks)))
 }
 
 // VetAll checks the messages that b starts with, one after the other, as Vet checks each of them. It returns how many are
 // accepted before the first that is not, and how many bytes their frames have. It is one call of the library, so many
 // small messages take less time than by Vet. It allocates nothing, apart from an error.
 //
-// err is nil if b ends after these messages. Otherwise it is the error of Vet for the next one, b[length:]: a *Refusal, a
-// *FrameError, which is Truncated if b ends inside it, or a *LimitsError. Limits.AllowTrailing has no effect.
-func VetAll(b []byte, l Limits) (count, length int, err error) {
-	l.AllowTrailing = true
-	f := C.capvet_go_vet_all(pointer(b), C.size_t(len(b)), l.raw())
-	if f.result.answer != C.CAPVET_NO_MESSAGE {
-		err = errorOf(&f.result, l)
+// err is nil if b ends after these messages. Otherwise it is the error of VetPrefix for the next one, b[length:], with its
+// number and its offset in b: a *Refusal, a *FrameError, which is ReasonTruncated if b ends inside it, or a *LimitsError.
+// With Limits.Exclusive there is a call of the library for each message.
+func VetAll(b []byte, l *Limits) (count, length int, err error) {
+	if l != nil && l.Exclusive {
+		count, length, err = vetEach(b, l)
+	} else {
+		f := C.capvet_go_vet_all(pointer(b), C.size_t(len(b)), l.raw(prefix))
+		count, length = int(f.count), int(f.length)
+		if f.result.answer != C.CAPVET_NO_MESSAGE {
+			err = errorOf(&f.result, b[length:], l.orDefault())
+		}
 	}
-	return int(f.count), int(f.length), err
+	return count, length, placed(err, count, int64(length))
 }
 
-// VetExclusive checks a message as Vet does, and that no word of it is used twice. It allocates one bit for each word
-// of the message.
-//
-// The error is one of Vet. It is a *Refusal with the reason Overlap if a word is used twice.
-func VetExclusive(b []byte, l Limits) (Report, error) {
-	n, err := inputLength(b, l)
-	if err != nil {
-		return Report{}, err
+// vetEach does what VetAll does, by a call for each message.
+func vetEach(b []byte, l *Limits) (count, length int, err error) {
+	for {
+		m, err := vet(b[length:], l, prefix)
+		if frame, ok := err.(*FrameError); ok && frame.Reason == ReasonNoMessage {
+			return count, length, nil
+		}
+		if err != nil {
+			return count, length, err
+		}
+		count, length = count+1, length+len(m.bytes)
 	}
-	marks := make([]uint64, n/512+1) // CAPVET_MARKS_BOUND(n)
-	r := C.capvet_go_vet_exclusive(pointer(b), C.size_t(len(b)), l.raw(), (*C.uint64_t)(&marks[0]), C.size_t(len(marks)))
-	if r.answer != C.CAPVET_OK {
-		return Report{}, errorOf(&r, l)
-	}
-	return reportOf(&r.report), nil
 }
 
-// IsCanonical reports whether a message is its own canonical form. A message that Vet does not accept gives its error,
-// and so do trailing bytes, even if Limits.AllowTrailing is set. It is false for a message with a capability.
-//
-// For what AppendCanonical returned, set Limits.NoTable and Limits.AllowAmplified.
-func IsCanonical(b []byte, l Limits) (bool, error) {
-	r := C.capvet_go_is_canonical(pointer(b), C.size_t(len(b)), l.raw())
+// IsCanonicalWords reports whether words without a table are the canonical form of a message: what a receiver of a
+// signature asks of the words that were signed. It is true for what AppendCanonical returned with the same limits. So
+// amplified words are accepted, and Limits.Charge bounds the work. The words may be one more than that. The error is one
+// of VetWords. Words that are accepted are not copied.
+func IsCanonicalWords(b []byte, l *Limits) (bool, error) {
+	r := C.capvet_go_check_words(pointer(b), C.size_t(len(b)), l.raw(words))
 	switch r.answer {
 	case C.CAPVET_OK:
 		return true, nil
 	case C.CAPVET_NOT_CANONICAL:
 		return false, nil
+	case C.CAPVET_BAD_LIMITS:
+		return false, &LimitsError{Limits: l.orDefault()}
 	}
-	return false, errorOf(&r, l)
-}
-
-// AppendCanonical appends the canonical words of a message to dst, without a table: equal content gives equal bytes.
-// They are what to hash or sign. After an error dst is returned as it was. dst may share memory with b: then the result
-// is in new memory.
-//
-// The error is one of Vet, or a *CapabilityError.
-func AppendCanonical(dst, b []byte, l Limits) ([]byte, error) {
-	n, err := inputLength(b, l)
-	if err != nil {
-		return dst, err
-	}
-	// (the form is seldom longer than the message; if it is, the first call answers its length)
-	for {
-		grown := grow(dst, b, n)
-		out, size := spare(grown)
-		r := C.capvet_go_canonical(pointer(b), C.size_t(len(b)), l.raw(), out, size)
-		switch r.answer {
-		case C.CAPVET_OK:
-			return grown[:len(dst)+int(r.required)], nil
-		case C.CAPVET_BUFFER_TOO_SMALL:
-			n = int(r.required)
-		default:
-			return dst, errorOf(&r, l)
-		}
-	}
+	_, err := VetWords(b, l.ofCopies())
+	return false, err
 }

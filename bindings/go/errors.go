@@ -4,59 +4,28 @@ package capvet
 import "C"
 
 import (
+	"encoding/json"
 	"fmt"
 	"io"
 )
 
-// Reason is why bytes are not accepted: the number of an answer in capvet.h. Later versions of the library may add some.
-type Reason uint32
-
-// The reasons of a FrameError.
-const (
-	NoMessage       Reason = C.CAPVET_NO_MESSAGE        // there are no bytes: the regular end of a stream
-	TooManySegments Reason = C.CAPVET_TOO_MANY_SEGMENTS // more than 512
-	TooLarge        Reason = C.CAPVET_TOO_LARGE         // more words than Limits.MessageWords
-	Truncated       Reason = C.CAPVET_TRUNCATED         // more bytes are required
-	Trailing        Reason = C.CAPVET_TRAILING          // bytes follow the message
-)
-
-// The reasons of a Refusal.
-const (
-	Overlap       Reason = C.CAPVET_OVERLAP        // a word is used twice; only VetExclusive looks for it
-	NullPad       Reason = C.CAPVET_NULL_PAD       // not strict: a one-word landing pad of zeros
-	EmptySegment  Reason = C.CAPVET_EMPTY_SEGMENT  // not strict: a two-word landing pad leads into a segment without words
-	CapabilityPad Reason = C.CAPVET_CAPABILITY_PAD // not strict: a one-word landing pad that is a capability
-	ManySegments  Reason = C.CAPVET_MANY_SEGMENTS  // not strict: 512 segments; it is about no pointer
-
-	NoRoot           Reason = C.CAPVET_NO_ROOT           // the first segment has no words
-	Reserved         Reason = C.CAPVET_RESERVED          // a pointer of a kind that the format reserves
-	SegmentMissing   Reason = C.CAPVET_SEGMENT_MISSING   // a far pointer to a segment that does not exist
-	PadOutside       Reason = C.CAPVET_PAD_OUTSIDE       // a landing pad outside its segment
-	PadIsFar         Reason = C.CAPVET_PAD_IS_FAR        // a one-word landing pad that is a far pointer
-	PadNotFar        Reason = C.CAPVET_PAD_NOT_FAR       // a two-word landing pad that does not start with a far pointer
-	TagKind          Reason = C.CAPVET_TAG_KIND          // the tag of a two-word landing pad is no struct and no list
-	TagOffset        Reason = C.CAPVET_TAG_OFFSET        // the offset in that tag is not 0
-	OutOfSegment     Reason = C.CAPVET_OUT_OF_SEGMENT    // an object that is not inside its segment
-	CompositeTag     Reason = C.CAPVET_COMPOSITE_TAG     // the tag of a list of structs is not a struct's
-	CompositeOverrun Reason = C.CAPVET_COMPOSITE_OVERRUN // the elements of a list of structs exceed the list's size
-	DepthLimit       Reason = C.CAPVET_DEPTH_LIMIT       // an object with a level above Limits.Depth
-	WordLimit        Reason = C.CAPVET_WORD_LIMIT        // the charge exceeds its limit; or the message is amplified
-)
-
-// String returns the name that the program capvet prints, such as "DepthLimit". It is "Unknown" for a reason of a later
-// library.
-func (r Reason) String() string {
-	return C.GoString(C.capvet_answer_name(C.uint32_t(r)))
-}
-
-// FrameError says that bytes hold no complete frame within the limits, or more than the frame.
+// FrameError says that bytes hold no complete frame within the limits, or more than the frame. Fields that its reason does
+// not name are 0.
 //
-// errors.Is(err, io.EOF) holds for NoMessage, and errors.Is(err, io.ErrUnexpectedEOF) for Truncated.
+// errors.Is(err, io.ErrUnexpectedEOF) holds for ReasonTruncated, and errors.Is(err, io.EOF) for ReasonNoMessage of
+// FrameLength and VetPrefix, where no bytes are the regular end of a stream.
 type FrameError struct {
-	Reason   Reason
-	Required uint64 // NoMessage, Truncated: the least length of the bytes that gets further; of packed bytes 0
-	Detail   uint64 // TooManySegments: how many; TooLarge: how many words; Trailing: how many bytes
-	Length   int    // Trailing: bytes of the frame
+	Reason        Reason
+	Required      uint64 // NoMessage, Truncated: the least length of the bytes that gets further; of packed bytes 0
+	Segments      uint64 // TooManySegments: how many
+	Words         uint64 // TooLarge: how many
+	TrailingBytes uint64 // Trailing: how many
+	Segment       int    // BadSegment: its number, from 0
+	Length        int    // Trailing: bytes of the frame
+	Number        int    // the number of the message in its stream or buffer, from 0
+	Offset        int64  // how many bytes come before it there, packed bytes of a packed stream
+
+	isEnd bool // no bytes are the regular end
 }
 
 // Error returns a text such as "capvet: Trailing: 8 bytes after a message of 16 bytes".
@@ -64,18 +33,29 @@ func (e *FrameError) Error() string {
 	return fmt.Sprintf("capvet: %v%s", e.Reason, e.amounts())
 }
 
+// Line returns what the program capvet prints after "message N: ", such as "TooLarge 8388609". Of a cut stream the program
+// prints also its length.
+func (e *FrameError) Line() string {
+	if detail := e.Segments + e.Words + e.TrailingBytes; detail > 0 {
+		return fmt.Sprintf("%v %d", e.Reason, detail)
+	}
+	return e.Reason.String()
+}
+
 // amounts returns what Error adds to the name of the reason, if there is anything to add.
 func (e *FrameError) amounts() string {
 	switch {
-	case e.Reason == TooManySegments:
-		return fmt.Sprintf(": %d segments, at most %d are allowed", e.Detail, C.CAPVET_MAX_SEGMENTS)
-	case e.Reason == TooLarge:
-		return fmt.Sprintf(": %d words are above the limit", e.Detail)
-	case e.Reason == Trailing:
-		return fmt.Sprintf(": %d bytes after a message of %d bytes", e.Detail, e.Length)
+	case e.Reason == ReasonTooManySegments:
+		return fmt.Sprintf(": %d segments, at most %d are allowed", e.Segments, C.CAPVET_MAX_SEGMENTS)
+	case e.Reason == ReasonTooLarge:
+		return fmt.Sprintf(": %d words are above the limit", e.Words)
+	case e.Reason == ReasonTrailing:
+		return fmt.Sprintf(": %d bytes after a message of %d bytes", e.TrailingBytes, e.Length)
+	case e.Reason == ReasonBadSegment:
+		return fmt.Sprintf(": segment %d is not of whole words", e.Segment)
 	case e.Required > 0:
 		return fmt.Sprintf(": at least %d bytes are required", e.Required)
-	case e.Reason == Truncated:
+	case e.Reason == ReasonTruncated:
 		return ": the packed bytes are cut"
 	}
 	return ""
@@ -83,16 +63,65 @@ func (e *FrameError) amounts() string {
 
 // Is reports whether target is io.EOF or io.ErrUnexpectedEOF and says the same as e.
 func (e *FrameError) Is(target error) bool {
-	return e.Reason == NoMessage && target == io.EOF || e.Reason == Truncated && target == io.ErrUnexpectedEOF
+	return e.isEnd && e.Reason == ReasonNoMessage && target == io.EOF || e.Reason == ReasonTruncated && target == io.ErrUnexpectedEOF
 }
 
-// Refusal says that a message is refused, and names the pointer. ManySegments is about no pointer: then Position is 0:0
-// and Pointers is 0, as the program capvet prints it.
+// Unwrap returns the reason.
+func (e *FrameError) Unwrap() error {
+	return e.Reason
+}
+
+// MarshalJSON returns an object with the verdict "broken", and the fields of e that are not 0.
+func (e *FrameError) MarshalJSON() ([]byte, error) {
+	var segment *int
+	if e.Reason == ReasonBadSegment {
+		segment = &e.Segment
+	}
+	return json.Marshal(struct {
+		Message       int    `json:"message"`
+		Offset        int64  `json:"offset"`
+		Length        int    `json:"length,omitempty"`
+		Verdict       string `json:"verdict"`
+		Reason        Reason `json:"reason"`
+		Required      uint64 `json:"required,omitempty"`
+		Segments      uint64 `json:"segments,omitempty"`
+		Words         uint64 `json:"words,omitempty"`
+		TrailingBytes uint64 `json:"trailing_bytes,omitempty"`
+		Segment       *int   `json:"segment,omitempty"`
+	}{e.Number, e.Offset, e.Length, "broken", e.Reason, e.Required, e.Segments, e.Words, e.TrailingBytes, segment})
+}
+
+// placed returns an error with the place of its message in a stream or a buffer.
+func placed(err error, number int, offset int64) error {
+	switch e := err.(type) {
+	case *Refusal:
+		e.Number, e.Offset = number, offset
+	case *FrameError:
+		e.Number, e.Offset = number, offset
+	}
+	return err
+}
+
+// asEnd returns an error for which no bytes are the regular end of a stream.
+func asEnd(err error) error {
+	if e, ok := err.(*FrameError); ok {
+		e.isEnd = true
+	}
+	return err
+}
+
+// Refusal says that a message is refused, and names the pointer. ReasonManySegments and ReasonNoRoot are about no pointer:
+// then Position is 0:0 and Pointer is 0, as the program capvet prints it.
 type Refusal struct {
 	Reason   Reason
 	Position Position // of the pointer
-	Pointers uint64   // how many pointers were checked, the refused one included
-	Length   int      // bytes of the frame: the next message of a buffer starts after them
+	Pointer  uint64   // its number in preorder, from 1
+	Length   int      // bytes of the message
+	Number   int      // the number of the message in its stream or buffer, from 0
+	Offset   int64    // how many bytes come before it there, packed bytes of a packed stream
+
+	unvetted []byte
+	limits   Limits
 }
 
 // Error returns the line with the name of the package before it.
@@ -102,7 +131,48 @@ func (e *Refusal) Error() string {
 
 // Line returns what the program capvet prints after "message N: ", such as "refused DepthLimit at 0:7 pointers 3".
 func (e *Refusal) Line() string {
-	return fmt.Sprintf("refused %v at %v pointers %d", e.Reason, e.Position, e.Pointers)
+	return fmt.Sprintf("refused %v at %v pointers %d", e.Reason, e.Position, e.Pointer)
+}
+
+// Unwrap returns the reason.
+func (e *Refusal) Unwrap() error {
+	return e.Reason
+}
+
+// MarshalJSON returns an object with the verdict "refused", the reason, the place of the pointer, its path, and the place of
+// the message in its stream.
+func (e *Refusal) MarshalJSON() ([]byte, error) {
+	type pointer struct {
+		Segment uint32 `json:"segment"`
+		Word    uint32 `json:"word"`
+		Pointer uint64 `json:"pointer"`
+		Path    string `json:"path,omitempty"`
+	}
+	var named *pointer
+	if e.Pointer > 0 {
+		named = &pointer{e.Position.Segment, e.Position.Word, e.Pointer, e.Path()}
+	}
+	return json.Marshal(struct {
+		Message int    `json:"message"`
+		Offset  int64  `json:"offset"`
+		Length  int    `json:"length"`
+		Verdict string `json:"verdict"`
+		Reason  Reason `json:"reason"`
+		*pointer
+	}{e.Number, e.Offset, e.Length, "refused", e.Reason, named})
+}
+
+// Unvetted returns the bytes of the refused message, in place. They are for a log: no reader may have them. After a Scanner
+// the next call of Scan overwrites them, and Path and Explain read them: Clone keeps them.
+func (e *Refusal) Unvetted() []byte {
+	return e.unvetted
+}
+
+// Clone returns the refusal with a copy of the bytes.
+func (e *Refusal) Clone() *Refusal {
+	kept := *e
+	kept.unvetted = append([]byte(nil), e.unvetted...)
+	return &kept
 }
 
 // CapabilityError says that a message is accepted, but has a capability and so no canonical form.
@@ -112,7 +182,8 @@ type CapabilityError struct {
 
 // Error names the place of the first capability.
 func (e *CapabilityError) Error() string {
-	return fmt.Sprintf("capvet: HasCapability at %v", e.Report.FirstCapability)
+	first, _ := e.Report.FirstCapability()
+	return fmt.Sprintf("capvet: HasCapability at %v", first)
 }
 
 // PathError says that a text is not a path.
@@ -126,37 +197,55 @@ func (e *PathError) Error() string {
 	return fmt.Sprintf("capvet: bad path %q at byte %d", e.Path, e.Offset)
 }
 
-// LimitsError says that a number of Limits is above its maximum, or that Limits.NoTable is set together with
-// Limits.AllowTrailing or for a function that needs a table.
+// LimitsError says that a number of Limits is above its maximum.
 type LimitsError struct {
 	Limits Limits
 }
 
-// Error names the field that is not valid.
+// Error names the number that is above its maximum.
 func (e *LimitsError) Error() string {
 	return "capvet: BadLimits: " + e.Limits.culprit()
 }
 
-// errorOf returns the error of an answer other than that of an accepted message.
-func errorOf(r *C.capvet_go_result, l Limits) error {
+// first returns the first n bytes of b, or nil if it has less.
+func first(b []byte, n int) []byte {
+	if len(b) < n {
+		return nil
+	}
+	return b[:n:n]
+}
+
+// errorOf returns the error of an answer other than that of an accepted message. A refused message is what b begins with.
+func errorOf(r *C.capvet_go_result, b []byte, l Limits) error {
 	switch {
 	case r.answer == C.CAPVET_BAD_LIMITS:
 		return &LimitsError{Limits: l}
 	case r.answer == C.CAPVET_HAS_CAPABILITY:
 		return &CapabilityError{Report: reportOf(&r.report)}
 	case r.answer < C.CAPVET_BAD_LIMITS:
-		return &FrameError{
-			Reason:   Reason(r.answer),
-			Required: uint64(r.report.input_required),
-			Detail:   uint64(r.report.detail),
-			Length:   int(r.report.length),
-		}
+		return frameErrorOf(&r.report, Reason(r.answer))
 	}
 	// (an answer that a later library adds is a refusal too)
 	return &Refusal{
 		Reason:   Reason(r.answer),
 		Position: positionOf(&r.report),
-		Pointers: uint64(r.report.pointers),
+		Pointer:  uint64(r.report.pointers),
 		Length:   int(r.report.length),
+		unvetted: first(b, int(r.report.length)),
+		limits:   l,
 	}
+}
+
+// frameErrorOf returns the error of a frame, with the number that the reason has.
+func frameErrorOf(raw *C.capvet_report, reason Reason) *FrameError {
+	e := &FrameError{Reason: reason, Required: uint64(raw.input_required), Length: int(raw.length)}
+	switch reason {
+	case ReasonTooManySegments:
+		e.Segments = uint64(raw.detail)
+	case ReasonTooLarge:
+		e.Words = uint64(raw.detail)
+	case ReasonTrailing:
+		e.TrailingBytes = uint64(raw.detail)
+	}
+	return e
 }

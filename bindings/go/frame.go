@@ -8,10 +8,10 @@ import "C"
 //
 // The error is a *FrameError or a *LimitsError. FrameError.Required is how many bytes are required to get further: it is a
 // claim of the sender, at most 8 bytes for each word of Limits.MessageWords and 2,056 more.
-func FrameLength(b []byte, l Limits) (int, error) {
-	r := C.capvet_go_frame(pointer(b), C.size_t(len(b)), l.raw())
+func FrameLength(b []byte, l *Limits) (int, error) {
+	r := C.capvet_go_frame(pointer(b), C.size_t(len(b)), l.raw(whole))
 	if r.answer != C.CAPVET_OK {
-		return 0, errorOf(&r, l)
+		return 0, asEnd(errorOf(&r, nil, l.orDefault()))
 	}
 	return int(r.report.length), nil
 }
@@ -22,15 +22,15 @@ func FrameLength(b []byte, l Limits) (int, error) {
 // The error is a *FrameError.
 func Segments(b []byte) ([][]byte, error) {
 	l := Limits{MessageWords: C.CAPVET_MAX_MESSAGE_WORDS}
-	r := C.capvet_go_frame(pointer(b), C.size_t(len(b)), l.raw())
+	var extents [C.CAPVET_MAX_SEGMENTS]C.capvet_extent
+	r := C.capvet_go_segments(pointer(b), C.size_t(len(b)), l.raw(whole), &extents[0], C.size_t(len(extents)))
 	if r.answer != C.CAPVET_OK {
-		return nil, errorOf(&r, l)
+		return nil, errorOf(&r, nil, l)
 	}
-	segments := make([][]byte, r.report.segments)
+	segments := make([][]byte, r.required)
 	for i := range segments {
-		p := C.capvet_go_segment_at(pointer(b), C.size_t(len(b)), C.uint32_t(i))
-		end := p.offset + p.length
-		segments[i] = b[p.offset:end:end]
+		end := extents[i].offset + extents[i].length
+		segments[i] = b[extents[i].offset:end:end]
 	}
 	return segments, nil
 }

@@ -23,7 +23,7 @@ var corpus = flag.String("corpus", "", "a folder of inputs for fuzzing")
 
 // input is an input with its arguments.
 type input struct {
-	limits capvet.Limits
+	limits *capvet.Limits
 	bytes  []byte
 	slack  int
 	state  uint64
@@ -35,21 +35,19 @@ func inputOf(data []byte) (*input, bool) {
 		return nil, false
 	}
 	in := &input{
-		limits: capvet.Limits{
+		limits: with(capvet.Limits{
 			Depth:          uint32(binary.LittleEndian.Uint16(data[2:])),
 			MessageWords:   uint64(binary.LittleEndian.Uint32(data[4:])),
 			Charge:         uint64(binary.LittleEndian.Uint32(data[8:])),
-			AllowTrailing:  data[0]&1 != 0,
 			AllowNonstrict: data[0]&2 != 0,
 			AllowAmplified: data[0]&4 != 0,
-			NoTable:        data[0]&8 != 0,
-		},
+		}),
 		bytes: data[16:],
 		slack: int(data[1] & 7),
 		state: uint64(binary.LittleEndian.Uint32(data[12:])),
 	}
 	// (a walk of an amplified message would take seconds)
-	if l := &in.limits; l.AllowAmplified && (l.Charge == 0 || l.Charge > 1<<16) {
+	if l := in.limits; l.AllowAmplified && l.Charge > 1<<16 {
 		l.Charge = 1 << 16
 	}
 	return in, true
@@ -98,7 +96,7 @@ func piecesOf(in *input, b []byte) *pieces {
 // ends returns the error of a stream of these bytes that ends with this one where it is whole.
 func (p *pieces) ends(end error) error {
 	var frame *capvet.FrameError
-	if p.end == io.EOF || !errors.Is(end, io.EOF) && end != nil && !(errors.As(end, &frame) && frame.Reason == capvet.Truncated) {
+	if p.end == io.EOF || !errors.Is(end, io.EOF) && end != nil && !(errors.As(end, &frame) && frame.Reason == capvet.ReasonTruncated) {
 		return end
 	}
 	if p.end == nil {
@@ -130,7 +128,7 @@ func (p *pieces) Read(b []byte) (int, error) {
 }
 
 // verdicts returns the lines of the messages of b, by Vet, and the error at its end.
-func verdicts(b []byte, l capvet.Limits, check func([]byte, capvet.Limits) (capvet.Report, error)) (lines []string, err error) {
+func verdicts(b []byte, l *capvet.Limits) (lines []string, err error) {
 	for {
 		n, err := capvet.FrameLength(b, l)
 		if err == nil && len(lines) == most {
@@ -139,14 +137,14 @@ func verdicts(b []byte, l capvet.Limits, check func([]byte, capvet.Limits) (capv
 		if err != nil {
 			return lines, err
 		}
-		report, err := check(b[:n:n], l)
+		m, err := capvet.Vet(b[:n:n], l)
 		var refusal *capvet.Refusal
 		if errors.As(err, &refusal) {
 			lines = append(lines, refusal.Line())
 		} else if err != nil {
 			return lines, err
 		} else {
-			lines = append(lines, report.String())
+			lines = append(lines, m.Report().String())
 		}
 		b = b[n:]
 	}
@@ -159,13 +157,12 @@ const most = 300
 var errMost = errors.New("more messages")
 
 // scans returns the lines of a Scanner, and its error. Each accepted message is vetted again.
-func scans(t *testing.T, s *capvet.Scanner, l capvet.Limits) (lines []string, err error) {
-	l.AllowTrailing = false
+func scans(t *testing.T, s *capvet.Scanner, l *capvet.Limits) (lines []string, err error) {
 	offset := int64(-1)
-	if s.Bytes() != nil {
+	if s.Message().Bytes() != nil {
 		t.Fatal("bytes before the first message")
 	}
-	for s.Scan() {
+	for b, refusal, ok := next(s); ok; b, refusal, ok = next(s) {
 		if s.Number() != len(lines) || s.Offset() < offset {
 			t.Fatal(s.Number(), s.Offset())
 		}
@@ -173,18 +170,20 @@ func scans(t *testing.T, s *capvet.Scanner, l capvet.Limits) (lines []string, er
 		if len(lines) == most {
 			return lines, errMost
 		}
-		if refusal := s.Refusal(); refusal != nil {
-			if s.Bytes() != nil || len(s.Raw()) != refusal.Length {
+		again, err := capvet.Vet(b, l)
+		if refusal != nil {
+			if s.Message().Bytes() != nil || len(b) != refusal.Length || refusal.Offset != offset {
 				t.Fatal("bytes of a refused message")
 			}
+			refusal.Number, refusal.Offset = 0, 0
+			same(t, "the refusal", err, refusal)
 			lines = append(lines, refusal.Line())
 			continue
 		}
-		report, err := capvet.Vet(s.Bytes(), l)
-		if err != nil || report != s.Report() {
-			t.Fatal(report, err)
+		if err != nil || again.Report() != s.Message().Report() {
+			t.Fatal(again.Report(), err)
 		}
-		lines = append(lines, report.String())
+		lines = append(lines, again.Report().String())
 	}
 	if s.Scan() {
 		t.Fatal("a scan after the end")
@@ -201,7 +200,7 @@ func sameEnd(t *testing.T, want, got error, isPacked bool) {
 	case isPacked && errors.As(want, &one) && errors.As(got, &other) && one.Reason == other.Reason:
 		return
 	}
-	if !reflect.DeepEqual(want, got) {
+	if !isSame(placed(want, 0, 0), placed(got, 0, 0)) {
 		t.Fatalf("want %#v, got %#v", want, got)
 	}
 }
@@ -215,17 +214,11 @@ func FuzzScanner(f *testing.F) {
 		if !ok {
 			return
 		}
-		check, used, most := capvet.Vet, 0, []int{1 << 20, 70000, 9000}[in.choose(3)]
-		isExclusive := in.choose(2) == 0
-		if isExclusive {
-			check = capvet.VetExclusive
-		}
+		used, most := 0, []int{1 << 20, 70000, 9000}[in.choose(3)]
+		in.limits.Exclusive = in.choose(2) == 0
 		scan := func(s *capvet.Scanner) ([]string, error) {
-			if isExclusive {
-				s.Exclusive()
-			}
 			used = 0
-			s.Bound(func(n int) bool {
+			s.SetBound(func(n int) bool {
 				if used+n > most {
 					return false
 				}
@@ -238,17 +231,15 @@ func FuzzScanner(f *testing.F) {
 			}
 			return lines, err
 		}
-		want, end := verdicts(in.bytes, in.limits, func(b []byte, l capvet.Limits) (capvet.Report, error) {
-			l.AllowTrailing = false
-			return check(b, l)
-		})
+		want, end := verdicts(in.bytes, in.limits)
+		fuzzReader(t, in, want, end)
 		plain := piecesOf(in, in.bytes)
 		scanner := capvet.NewScanner(plain, in.limits)
 		plain.inside = scanner.Inside
 		got, err := scan(scanner)
 		sameScan(t, want, got, plain.ends(end), err, false)
 		if len(in.bytes)%8 == 0 {
-			packed := piecesOf(in, capvet.AppendPacked(nil, in.bytes))
+			packed := piecesOf(in, packedWords(in.bytes))
 			got, err = scan(capvet.NewPackedScanner(packed, in.limits))
 			sameScan(t, want, got, packed.ends(end), err, true)
 		}
@@ -258,6 +249,37 @@ func FuzzScanner(f *testing.F) {
 		got, err = scan(capvet.NewPackedScanner(packed, in.limits))
 		sameScan(t, want, got, packed.ends(end), err, true)
 	})
+}
+
+// fuzzReader reads the bytes of accepted messages, which are those before the first one that is refused.
+func fuzzReader(t *testing.T, in *input, lines []string, end error) {
+	if end == errMost {
+		return
+	}
+	length := 0
+	for _, line := range lines {
+		if strings.HasPrefix(line, "refused ") {
+			end = nil
+			break
+		}
+		n, err := capvet.FrameLength(in.bytes[length:], in.limits)
+		if err != nil {
+			t.Fatal(err)
+		}
+		length += n
+	}
+	pieces := piecesOf(in, in.bytes)
+	got, err := io.ReadAll(capvet.NewReader(pieces, in.limits))
+	if !bytes.Equal(got, in.bytes[:length]) {
+		t.Fatalf("%d bytes are passed on of %d", len(got), length)
+	}
+	var refusal *capvet.Refusal
+	if (end == nil) != errors.As(err, &refusal) {
+		t.Fatal(end, err)
+	}
+	if end != nil {
+		sameEnd(t, pieces.ends(end), err, false)
+	}
 }
 
 // sameScan compares what two scans gave. Without space one may have ended before the other.
@@ -284,12 +306,14 @@ func FuzzCalls(f *testing.F) {
 			return
 		}
 		b := append(make([]byte, in.slack, in.slack+len(in.bytes)), in.bytes...)[in.slack:]
-		report, err := capvet.Vet(b, in.limits)
-		fuzzVerdict(t, in, b, report, err)
-		fuzzCanonical(t, in, b, report, err)
+		m, err := capvet.Vet(b, in.limits)
+		fuzzVerdict(t, in, b, m, err)
+		if err == nil {
+			fuzzCanonical(t, in, m)
+		}
 		fuzzPacking(t, in, b)
-		fuzzNodes(t, in, b, err)
-		fuzzExplain(t, in, b, err)
+		fuzzNodes(t, in, b, m, err)
+		fuzzExplain(t, b, err)
 		fuzzErrors(t, in, b)
 	})
 }
@@ -297,22 +321,24 @@ func FuzzCalls(f *testing.F) {
 // fuzzErrors reads all that the errors of the functions say. The path of a refusal is a path.
 func fuzzErrors(t *testing.T, in *input, b []byte) {
 	_, vetErr := capvet.Vet(b, in.limits)
-	_, exclusiveErr := capvet.VetExclusive(b, in.limits)
+	_, exclusiveErr := capvet.Vet(b, exclusive(in.limits))
 	_, frameErr := capvet.FrameLength(b, in.limits)
-	_, formErr := capvet.AppendCanonical(nil, b, in.limits)
+	_, formErr := capvet.IsCanonicalWords(b, in.limits)
+	_, wordsErr := capvet.VetWords(b, in.limits)
+	_, segmentsErr := capvet.VetSegments([][]byte{b, b}, in.limits)
 	_, messageErr := capvet.AppendPackedMessage(nil, b, in.limits)
-	_, unpackErr := capvet.AppendUnpacked(nil, b, in.choose(64))
+	_, unpackErr := capvet.AppendUnpackedWords(nil, b, in.choose(64))
 	_, segmentErr := capvet.Segments(b[:in.choose(len(b)+1)])
-	_, pathErr := capvet.GetRange(nil, b, []string{"/p0", "p*", "/p*/x", "/p70000/i*"}[in.choose(4)], 0, in.limits)
-	for _, err := range []error{vetErr, exclusiveErr, frameErr, formErr, messageErr, unpackErr, segmentErr, pathErr} {
+	_, pathErr := capvet.PeekRange(nil, b, []string{"/p0", "p*", "/p*/x", "/p70000/i*"}[in.choose(4)], 0, in.limits)
+	for _, err := range []error{vetErr, exclusiveErr, frameErr, formErr, wordsErr, segmentsErr, messageErr, unpackErr, segmentErr, pathErr} {
 		var refusal *capvet.Refusal
 		if err != nil && !strings.HasPrefix(err.Error(), "capvet: ") {
 			t.Fatal(err)
 		}
 		if errors.As(err, &refusal) {
-			path := refusal.Path(b, in.limits)
+			path := refusal.Path()
 			var bad *capvet.PathError
-			if _, _, err := capvet.Get(b, path, in.limits); path != "" && errors.As(err, &bad) {
+			if _, _, err := capvet.Peek(b, path, in.limits); path != "" && errors.As(err, &bad) {
 				t.Fatal(path, err)
 			}
 		}
@@ -320,35 +346,28 @@ func fuzzErrors(t *testing.T, in *input, b []byte) {
 	if !capvet.CPUSupported() || strings.Count(capvet.Version(), ".") != 2 {
 		t.Fatal(capvet.Version())
 	}
-	defer func() {
-		if (recover() != nil) != (len(b)%8 != 0) {
-			t.Error("a part of a word is packed")
-		}
-	}()
-	capvet.AppendPacked(nil, b)
+	if _, err := capvet.AppendPackedWords(nil, b); (err != nil) != (len(b)%8 != 0) {
+		t.Error("a part of a word is packed")
+	}
 }
 
 // explained is an explanation: lines that begin with two blanks, and the last one has the reason.
 var explained = regexp.MustCompile(`^(  [!-~][ -~]*\n)*  reason [ -~]+\n$`)
 
-// fuzzExplain explains what Vet refuses, and nothing else. The lines begin with the path of the refusal, and with the place and
+// fuzzExplain explains what Vet refuses. The lines begin with the path of the refusal, and with the place and
 // the word at its position.
-func fuzzExplain(t *testing.T, in *input, b []byte, vetted error) {
-	lines, err := capvet.Explain(b, in.limits)
+func fuzzExplain(t *testing.T, b []byte, vetted error) {
 	var refusal *capvet.Refusal
 	if !errors.As(vetted, &refusal) {
-		if lines != "" || !reflect.DeepEqual(err, vetted) {
-			t.Fatalf("%q, %v, %v", lines, err, vetted)
-		}
 		return
 	}
-	path := refusal.Path(b, in.limits)
-	if err != nil || !explained.MatchString(lines) || (path == "") != (refusal.Pointers == 0) {
-		t.Fatalf("%q, %v, path %q", lines, err, path)
+	path, lines := refusal.Path(), refusal.Explain()
+	if !explained.MatchString(lines) || (path == "") != (refusal.Pointer == 0) {
+		t.Fatalf("%q, path %q", lines, path)
 	}
 	start := ""
 	if path != "" {
-		place, word := placeOf(b, in.limits, refusal.Position)
+		place, word := placeOf(b, refusal.Position)
 		start = fmt.Sprintf("  path %s\n  byte %d of the message\n  pointer %x ", path, place, word)
 	}
 	if !strings.HasPrefix(lines, start) {
@@ -356,72 +375,89 @@ func fuzzExplain(t *testing.T, in *input, b []byte, vetted error) {
 	}
 }
 
-// placeOf returns the place in bytes of a position in a message, with its table if it has one, and the word there.
-func placeOf(b []byte, l capvet.Limits, p capvet.Position) (int, []byte) {
-	segments, table := [][]byte{b}, 0
-	if !l.NoTable {
-		segments, _ = capvet.Segments(b)
-		table = 8 * (len(segments)/2 + 1)
-	}
-	place := table + 8*int(p.Word)
+// placeOf returns the place in bytes of a position in a message, and the word there.
+func placeOf(b []byte, p capvet.Position) (int, []byte) {
+	segments, _ := capvet.Segments(b)
+	place := 8*(len(segments)/2+1) + 8*int(p.Word)
 	for _, segment := range segments[:p.Segment] {
 		place += len(segment)
 	}
 	return place, segments[p.Segment][8*p.Word:][:8]
 }
 
-func fuzzVerdict(t *testing.T, in *input, b []byte, report capvet.Report, err error) {
-	if err != nil && (err.Error() == "" || report != capvet.Report{}) {
-		t.Fatal(report, err)
+func fuzzVerdict(t *testing.T, in *input, b []byte, m capvet.Message, err error) {
+	if err != nil && (err.Error() == "" || m.Bytes() != nil || m.Report() != capvet.Report{}) {
+		t.Fatal(m, err)
 	}
-	if other, otherErr := capvet.VetExclusive(b, in.limits); otherErr == nil && (err != nil || other != report) {
-		t.Fatal(other, report, err)
+	if other, otherErr := capvet.Vet(b, exclusive(in.limits)); otherErr == nil && (err != nil || other.Report() != m.Report()) {
+		t.Fatal(other, m, err)
 	}
 	// (the first messages that VetAll counts are those that Vet accepts)
 	count, length, end := capvet.VetAll(b, in.limits)
-	rest, l := b, in.limits
-	l.AllowTrailing = true
+	rest, next := b, error(nil)
 	for i := 0; i < count; i++ {
-		report, err := capvet.Vet(rest, l)
-		if err != nil {
-			t.Fatal(err)
+		if _, rest, next = capvet.VetPrefix(rest, in.limits); next != nil {
+			t.Fatal(next)
 		}
-		rest = rest[report.Length:]
 	}
 	if len(b)-len(rest) != length {
 		t.Fatal(length, len(rest))
 	}
-	if _, err := capvet.Vet(rest, l); !errors.Is(err, io.EOF) && !reflect.DeepEqual(err, end) || (len(rest) == 0) != (end == nil) {
+	if _, _, err := capvet.VetPrefix(rest, in.limits); !errors.Is(err, io.EOF) && !isSame(placed(err, count, int64(length)), end) || (len(rest) == 0) != (end == nil) {
 		if _, isLimits := end.(*capvet.LimitsError); !isLimits {
 			t.Fatal(err, end)
 		}
 	}
 	segments, frameErr := capvet.Segments(b)
-	if err == nil && !in.limits.NoTable && (frameErr != nil || len(segments) != report.Segments) {
+	if err == nil && (frameErr != nil || len(segments) != m.Report().Segments || len(m.Segments()) != len(segments)) {
 		t.Fatal(len(segments), frameErr)
 	}
 }
 
-func fuzzCanonical(t *testing.T, in *input, b []byte, report capvet.Report, err error) {
-	dst := append(make([]byte, 0, in.choose(200)), "prefix"...)
-	form, formErr := capvet.AppendCanonical(dst, b, in.limits)
-	if (err == nil && report.Capabilities == 0) != (formErr == nil) || string(form[:6]) != "prefix" {
-		t.Fatal(err, formErr)
+func fuzzDifference(t *testing.T, m capvet.Message) {
+	d, ok := m.FirstDifference()
+	if ok == m.IsCanonical() {
+		t.Fatal(d, ok)
 	}
-	isCanonical, isErr := capvet.IsCanonical(b, in.limits)
+	hasNoPointer := !ok || d.Reason == capvet.DifferenceSegments || d.Reason == capvet.DifferenceTrailing
+	if path := d.Path(); (path == "") != hasNoPointer || ok && d.Reason.String() == "Unknown" {
+		t.Fatal(d, path)
+	}
+}
+
+func fuzzCanonical(t *testing.T, in *input, m capvet.Message) {
+	b, report := m.Bytes(), m.Report()
+	dst := append(make([]byte, 0, in.choose(200)), "prefix"...)
+	fuzzDifference(t, m)
+	form, formErr := m.AppendCanonical(dst)
+	if (report.Capabilities == 0) != (formErr == nil) || string(form[:6]) != "prefix" {
+		t.Fatal(formErr)
+	}
 	if formErr != nil {
-		if len(form) != 6 || isCanonical || (err != nil && isErr == nil) {
-			t.Fatal(len(form), isCanonical, isErr)
+		if len(form) != 6 || m.IsCanonical() {
+			t.Fatal(len(form), m.IsCanonical())
 		}
 		return
 	}
-	l := capvet.Limits{NoTable: true, AllowAmplified: true, Charge: in.limits.Charge, Depth: in.limits.Depth}
-	if again, err := capvet.AppendCanonical(nil, form[6:], l); err != nil || !bytes.Equal(again, form[6:]) {
-		t.Fatal(err)
+	if m.IsCanonical() != (report.Segments == 1 && bytes.Equal(form[6:], b[8:])) {
+		t.Fatal(m.IsCanonical())
+	}
+	l := *in.limits
+	l.MessageWords = 1 << 28
+	if is, err := capvet.IsCanonicalWords(form[6:], &l); err != nil || !is {
+		t.Fatal(is, err)
+	}
+	l.AllowAmplified = true
+	if again, err := capvet.VetWords(form[6:], &l); err != nil || !again.IsCanonical() || again.Report().Charge > report.Charge {
+		t.Fatal(again.Report(), err)
 	}
 	// (the result is in new memory if it would overwrite the message)
 	shared := append(make([]byte, 0, 3*len(b)+64), b...)
-	over, err := capvet.AppendCanonical(shared[:0], shared, in.limits)
+	again, err := capvet.Vet(shared, in.limits)
+	if err != nil {
+		t.Fatal(err)
+	}
+	over, err := again.AppendCanonical(shared[:0])
 	if err != nil || !bytes.Equal(over, form[6:]) || !bytes.Equal(shared, b) {
 		t.Fatal(err)
 	}
@@ -429,15 +465,19 @@ func fuzzCanonical(t *testing.T, in *input, b []byte, report capvet.Report, err 
 
 func fuzzPacking(t *testing.T, in *input, b []byte) {
 	words := b[:len(b)/8*8]
-	packed := capvet.AppendPacked(make([]byte, 3, 3+in.choose(99)), words)[3:]
-	unpacked, err := capvet.AppendUnpacked(nil, packed, len(words))
+	packed, err := capvet.AppendPackedWords(make([]byte, 3, 3+in.choose(99)), words)
+	if err != nil {
+		t.Fatal(err)
+	}
+	packed = packed[3:]
+	unpacked, err := capvet.AppendUnpackedWords(nil, packed, len(words))
 	if err != nil || !bytes.Equal(unpacked, words) {
 		t.Fatal(err)
 	}
-	if _, err := capvet.AppendUnpacked(nil, packed, len(words)-1); len(words) > 0 && err == nil {
+	if _, err := capvet.AppendUnpackedWords(nil, packed, len(words)-1); len(words) > 0 && err == nil {
 		t.Fatal("unpacked above the limit")
 	}
-	if all, err := capvet.AppendUnpacked(nil, b, 1<<16); err == nil && len(all) > 1<<16 {
+	if all, err := capvet.AppendUnpackedWords(nil, b, 1<<16); err == nil && len(all) > 1<<16 {
 		t.Fatal(len(all))
 	}
 	message, err := capvet.AppendPackedMessage(nil, b, in.limits)
@@ -448,19 +488,22 @@ func fuzzPacking(t *testing.T, in *input, b []byte) {
 	if err != nil {
 		t.Fatal(err)
 	}
-	again, err := capvet.AppendUnpacked(nil, message, n)
+	again, err := capvet.AppendUnpackedWords(nil, message, n)
 	if err != nil || len(again) != n || !bytes.Equal(again[8:], b[8:n]) && again[0]%2 == 0 {
 		t.Fatal(err)
 	}
 }
 
 // fuzzNodes follows a path of any steps, and compares the nodes of a range with those of each path.
-func fuzzNodes(t *testing.T, in *input, b []byte, vetted error) {
+func fuzzNodes(t *testing.T, in *input, b []byte, m capvet.Message, vetted error) {
 	path := ""
 	for len(path) < 30 {
-		node, ok, err := capvet.Get(b, path+map[bool]string{true: "/"}[path == ""], in.limits)
-		if err != nil && vetted == nil && !in.limits.NoTable {
+		node, ok, err := capvet.Peek(b, path+map[bool]string{true: "/"}[path == ""], in.limits)
+		if err != nil && vetted == nil {
 			t.Fatal(path, err)
+		}
+		if other, isThere, err := m.Get(path + map[bool]string{true: "/"}[path == ""]); vetted == nil && (err != nil || isThere != ok || !reflect.DeepEqual(node, other)) {
+			t.Fatal(path, other, err)
 		}
 		if strings.HasPrefix(node.Kind.String(), "Kind(") {
 			t.Fatal(node.Kind)
@@ -471,30 +514,30 @@ func fuzzNodes(t *testing.T, in *input, b []byte, vetted error) {
 		if !ok {
 			break
 		}
-		letter := map[bool]string{true: "/p", false: "/i"}[node.Kind == capvet.Struct]
+		letter := map[bool]string{true: "/p", false: "/i"}[node.Kind == capvet.KindStruct]
 		fuzzRange(t, in, b, path+letter)
 		path += letter + fmt.Sprint(in.choose(8))
 	}
 	// (any text)
 	text := string(b[:in.choose(len(b)+1)%20])
 	var bad *capvet.PathError
-	if _, _, err := capvet.Get(b, text, in.limits); errors.As(err, &bad) && bad.Offset > len(text) {
+	if _, _, err := capvet.Peek(b, text, in.limits); errors.As(err, &bad) && bad.Offset > len(text) {
 		t.Fatal(bad)
 	}
-	if _, err := capvet.GetRange(nil, b, text, 0, in.limits); errors.As(err, &bad) && bad.Offset > len(text) {
+	if _, err := capvet.PeekRange(nil, b, text, 0, in.limits); errors.As(err, &bad) && bad.Offset > len(text) {
 		t.Fatal(bad)
 	}
 }
 
 func fuzzRange(t *testing.T, in *input, b []byte, path string) {
 	dst, first := make([]capvet.Node, in.choose(5)), uint32(in.choose(4))
-	n, err := capvet.GetRange(dst, b, path+"*", first, in.limits)
+	n, err := capvet.PeekRange(dst, b, path+"*", first, in.limits)
 	for k := range dst {
-		node, ok, oneErr := capvet.Get(b, path+fmt.Sprint(int(first)+k), in.limits)
+		node, ok, oneErr := capvet.Peek(b, path+fmt.Sprint(int(first)+k), in.limits)
 		if k < n && (!ok || !reflect.DeepEqual(node, dst[k])) {
 			t.Fatal(path, k, node, dst[k])
 		}
-		if k == n && (ok || !reflect.DeepEqual(oneErr, err)) {
+		if k == n && (ok || !isSame(oneErr, err)) {
 			t.Fatal(path, k, oneErr, err)
 		}
 	}

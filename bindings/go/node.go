@@ -13,21 +13,26 @@ type Kind uint32
 
 // The kinds of node.
 const (
-	Null       Kind = C.CAPVET_KIND_NULL
-	Struct     Kind = C.CAPVET_KIND_STRUCT
-	Values     Kind = C.CAPVET_KIND_VALUES   // a list of numbers, bits or bytes; Text and Data are lists of bytes
-	Pointers   Kind = C.CAPVET_KIND_POINTERS // a list of pointers
-	Structs    Kind = C.CAPVET_KIND_STRUCTS  // a list of structs
-	Capability Kind = C.CAPVET_KIND_CAPABILITY
+	KindNull       Kind = C.CAPVET_KIND_NULL
+	KindStruct     Kind = C.CAPVET_KIND_STRUCT
+	KindValues     Kind = C.CAPVET_KIND_VALUES   // a list of numbers, bits or bytes; Text and Data are lists of bytes
+	KindPointers   Kind = C.CAPVET_KIND_POINTERS // a list of pointers
+	KindStructs    Kind = C.CAPVET_KIND_STRUCTS  // a list of structs
+	KindCapability Kind = C.CAPVET_KIND_CAPABILITY
 )
 
-// String returns the name of the constant, or a number for a kind of a later library.
+// String returns a name such as "Struct", or a number for a kind of a later library.
 func (k Kind) String() string {
 	names := [...]string{"Null", "Struct", "Values", "Pointers", "Structs", "Capability"}
 	if int(k) < len(names) {
 		return names[k]
 	}
 	return fmt.Sprintf("Kind(%d)", uint32(k))
+}
+
+// MarshalText returns the name of the kind.
+func (k Kind) MarshalText() ([]byte, error) {
+	return []byte(k.String()), nil
 }
 
 // Node is a node of a message. Fields that do not apply to its kind are 0.
@@ -57,19 +62,14 @@ func nodeOf(raw *C.capvet_node, b []byte) Node {
 	}
 }
 
-// Get returns the node at a path such as "/p0/i1/p2". "/" is the root, /p steps from a struct to one of its pointers, and
-// /i from a list of pointers or structs to an element. ok is false if the path leads to nothing.
+// Peek returns the node at a path of a message that was not vetted, as Message.Get does of one that was. Only the pointers on
+// the path are checked, and what is wrong with another one is not noticed. So a service vets, and then uses Message.Get.
 //
-// A node of the kind Null means the field's default. No node means it only if each node before it on the path is null or
-// of the kind that the schema has. Readers also take lists of other kinds: a list of pointers or values as a list of
-// structs, and the other way round. So get the node of each list first, and refuse another kind.
-//
-// Only the pointers on the path are checked: call Vet first to check the rest. Node.Data is a slice of b.
-//
-// The error is one of Vet, or a *PathError. Limits.NoTable gives a *LimitsError.
-func Get(b []byte, path string, l Limits) (n Node, ok bool, err error) {
+// The error is one of Vet, or a *PathError. Pointer of a *Refusal then counts the pointers on the path, and it has no bytes
+// and no Path. Limits.Exclusive has no effect.
+func Peek(b []byte, path string, l *Limits) (n Node, ok bool, err error) {
 	text := []byte(path)
-	f := C.capvet_go_get(pointer(b), C.size_t(len(b)), l.raw(), (*C.char)(unsafe.Pointer(pointer(text))), C.size_t(len(text)))
+	f := C.capvet_go_get(pointer(b), C.size_t(len(b)), l.raw(whole), (*C.char)(unsafe.Pointer(pointer(text))), C.size_t(len(text)))
 	switch f.result.answer {
 	case C.CAPVET_OK:
 		return nodeOf(&f.node, b), true, nil
@@ -78,5 +78,5 @@ func Get(b []byte, path string, l Limits) (n Node, ok bool, err error) {
 	case C.CAPVET_BAD_PATH:
 		return Node{}, false, &PathError{Path: path, Offset: int(f.result.report.detail)}
 	}
-	return Node{}, false, errorOf(&f.result, l)
+	return Node{}, false, errorOf(&f.result, nil, l.orDefault())
 }

@@ -22,13 +22,13 @@ var gap = []byte{0, 0, 0, 0, 6, 0, 0, 0,
 	0xa0, 0x0f, 0, 0, 1, 0, 0, 0}
 
 // oneByOne returns what GetRange should return, from Get for each path, and the nodes.
-func oneByOne(b []byte, path string, first uint32, count int, l capvet.Limits) (nodes []capvet.Node, err error) {
+func oneByOne(b []byte, path string, first uint32, count int, l *capvet.Limits) (nodes []capvet.Node, err error) {
 	most := uint64(65535)
 	if strings.Contains(path, "i*") {
 		most = 1<<32 - 1
 	}
 	for number := uint64(first); len(nodes) < count && number <= most; number++ {
-		node, ok, err := capvet.Get(b, strings.Replace(path, "*", strconv.FormatUint(number, 10), 1), l)
+		node, ok, err := capvet.Peek(b, strings.Replace(path, "*", strconv.FormatUint(number, 10), 1), l)
 		if err != nil || !ok {
 			return nodes, err
 		}
@@ -37,7 +37,7 @@ func oneByOne(b []byte, path string, first uint32, count int, l capvet.Limits) (
 	var refusal *capvet.Refusal
 	if len(nodes) < count || count == 0 {
 		// (what is wrong with the limits or the frame is reported before a path is followed)
-		if _, _, err = capvet.Get(b, "/", l); errors.As(err, &refusal) {
+		if _, _, err = capvet.Peek(b, "/", l); errors.As(err, &refusal) {
 			err = nil
 		}
 	}
@@ -45,7 +45,7 @@ func oneByOne(b []byte, path string, first uint32, count int, l capvet.Limits) (
 }
 
 // sameRange compares GetRange with Get for each of its paths, and returns how many nodes there are.
-func sameRange(t *testing.T, b []byte, path string, first uint32, count int, l capvet.Limits) (int, error) {
+func sameRange(t *testing.T, b []byte, path string, first uint32, count int, l *capvet.Limits) (int, error) {
 	t.Helper()
 	what := fmt.Sprintf("%d of %s from %d of %x in %+v", count, path, first, b, l)
 	want, wantErr := oneByOne(b, path, first, count, l)
@@ -53,8 +53,9 @@ func sameRange(t *testing.T, b []byte, path string, first uint32, count int, l c
 	for k := range dst {
 		dst[k].Offset = -1 - k
 	}
-	n, err := capvet.GetRange(dst, b, path, first, l)
+	n, err := capvet.PeekRange(dst, b, path, first, l)
 	same(t, what, wantErr, err)
+	sameOfVetted(t, b, path, first, dst, n, l)
 	if n != len(want) {
 		t.Fatalf("%s: want %d, got %d", what, len(want), n)
 	}
@@ -69,15 +70,27 @@ func sameRange(t *testing.T, b []byte, path string, first uint32, count int, l c
 	return n, err
 }
 
+// sameOfVetted compares the nodes of a message that is accepted with those of PeekRange.
+func sameOfVetted(t *testing.T, b []byte, path string, first uint32, nodes []capvet.Node, n int, l *capvet.Limits) {
+	m, err := capvet.Vet(b, l)
+	if err != nil {
+		return
+	}
+	dst := make([]capvet.Node, len(nodes))
+	if count, err := m.GetRange(dst, path, first); err != nil || count != n || !reflect.DeepEqual(dst[:n], nodes[:n]) {
+		t.Fatalf("%d of %s from %d: %d, %v", len(nodes), path, first, count, err)
+	}
+}
+
 // paths returns those of all nodes below a node.
 func paths(t *testing.T, b []byte, path string) []string {
-	node, ok, err := capvet.Get(b, path, capvet.Limits{})
+	node, ok, err := capvet.Peek(b, path, nil)
 	if !ok || err != nil {
 		t.Fatal(path, ok, err)
 	}
-	below, letter := []string{path}, map[capvet.Kind]string{capvet.Struct: "p", capvet.Pointers: "i", capvet.Structs: "i"}[node.Kind]
+	below, letter := []string{path}, map[capvet.Kind]string{capvet.KindStruct: "p", capvet.KindPointers: "i", capvet.KindStructs: "i"}[node.Kind]
 	count := node.Count
-	if node.Kind == capvet.Struct {
+	if node.Kind == capvet.KindStruct {
 		count = node.Pointers
 	}
 	for k := 0; letter != "" && k < count; k++ {
@@ -103,7 +116,7 @@ func TestRangesOfSamples(t *testing.T) {
 			for step := 0; step < strings.Count(path, "/"); step++ {
 				star, number := starred(path, step)
 				for _, count := range []int{0, 1, 2, 9} {
-					if n, _ := sameRange(t, b, star, number, count, capvet.Limits{}); n > 1 {
+					if n, _ := sameRange(t, b, star, number, count, nil); n > 1 {
 						several++
 					}
 				}
@@ -139,8 +152,8 @@ func TestRangesOfChangedMessages(t *testing.T) {
 }
 
 func TestRanges(t *testing.T) {
-	outside := &capvet.Refusal{Reason: capvet.OutOfSegment, Position: capvet.Position{Word: 5}, Pointers: 3, Length: 56}
-	cut := &capvet.FrameError{Reason: capvet.Truncated, Required: 56}
+	outside := &capvet.Refusal{Reason: capvet.ReasonOutOfSegment, Position: capvet.Position{Word: 5}, Pointer: 3, Length: 56}
+	cut := &capvet.FrameError{Reason: capvet.ReasonTruncated, Required: 56}
 	for _, row := range []struct {
 		b            []byte
 		path         string
@@ -162,18 +175,17 @@ func TestRanges(t *testing.T) {
 		{gap, "/i2/p*", 0, 0, 0, nil},
 		{gap[:55], "/i*", 0, 0, 0, cut},
 		{gap[:55], "/i*", 0, 2, 0, cut},
-		{nil, "/i*", 0, 2, 0, &capvet.FrameError{Reason: capvet.NoMessage, Required: 8}},
+		{nil, "/i*", 0, 2, 0, &capvet.FrameError{Reason: capvet.ReasonNoMessage, Required: 8}},
 	} {
-		n, err := sameRange(t, row.b, row.path, row.first, row.count, capvet.Limits{})
+		n, err := sameRange(t, row.b, row.path, row.first, row.count, nil)
 		same(t, row.path, row.err, err)
 		if n != row.found {
 			t.Errorf("%d of %s from %d: want %d, got %d", row.count, row.path, row.first, row.found, n)
 		}
 	}
-	for _, l := range []capvet.Limits{{Depth: 257}, {NoTable: true}} {
-		_, err := capvet.GetRange(nil, gap, "no path", 0, l)
-		same(t, "limits", &capvet.LimitsError{Limits: l}, err)
-	}
+	above := with(capvet.Limits{Depth: 257})
+	_, err := capvet.PeekRange(nil, gap, "no path", 0, above)
+	same(t, "limits", &capvet.LimitsError{Limits: *above}, err)
 }
 
 // Each short text that isn't a path has the offset that Get reports for it, with 0 for its first star.
@@ -186,7 +198,7 @@ func TestPathsOfRanges(t *testing.T) {
 	}
 	texts = append(texts, "/p65535/i*", "/p65536/i*", "/p*/i4294967295", "/p*/i4294967296", "/p*\x00", "/p**", "/i*/q")
 	for _, path := range texts {
-		_, _, err := capvet.Get(nil, strings.Replace(path, "*", "0", 1), capvet.Limits{})
+		_, _, err := capvet.Peek(nil, strings.Replace(path, "*", "0", 1), nil)
 		var wrong *capvet.PathError
 		if errors.As(err, &wrong) {
 			wrong.Path = path
@@ -194,13 +206,13 @@ func TestPathsOfRanges(t *testing.T) {
 		} else if !strings.Contains(path, "*") {
 			err = &capvet.PathError{Path: path, Offset: len(path)}
 		}
-		_, got := capvet.GetRange(nil, nil, path, 0, capvet.Limits{})
+		_, got := capvet.PeekRange(nil, nil, path, 0, nil)
 		if !reflect.DeepEqual(err, got) {
 			t.Errorf("%q: want %#v, got %#v", path, err, got)
 		}
 	}
 	for path, at := range map[string]int{"": 0, "/": 1, "/p0": 3, "/*": 1, "/p*/i*": 5, "/p*0": 3, "*": 0} {
-		_, err := capvet.GetRange(nil, gap, path, 0, capvet.Limits{})
+		_, err := capvet.PeekRange(nil, gap, path, 0, nil)
 		same(t, path, &capvet.PathError{Path: path, Offset: at}, err)
 	}
 }

@@ -8,31 +8,33 @@ func packBound(n int) int {
 	return n / 8 * 10
 }
 
-// AppendPacked appends words in packed form to dst. They need not be a message. It panics if len(b) is not a multiple
-// of 8. dst may share memory with b: then the result is in new memory.
+// AppendPackedWords appends words in packed form to dst. They need not be a message. After an error dst is returned as it was.
+// dst may share memory with b: then the result is in new memory.
+//
+// The error is a *FrameError: ReasonTruncated if b is not of whole words.
 //
 // To send a message, use AppendPackedMessage, since some readers refuse a message that is packed as a whole.
-func AppendPacked(dst, b []byte) []byte {
+func AppendPackedWords(dst, b []byte) ([]byte, error) {
 	grown := grow(dst, b, packBound(len(b)))
 	out, size := spare(grown)
 	r := C.capvet_go_pack(pointer(b), C.size_t(len(b)), out, size)
 	if r.answer != C.CAPVET_OK {
-		panic("capvet: the length of words is not a multiple of 8")
+		return dst, &FrameError{Reason: ReasonTruncated, Required: uint64(len(b)+7) / 8 * 8}
 	}
-	return grown[:len(dst)+int(r.required)]
+	return grown[:len(dst)+int(r.required)], nil
 }
 
-// AppendUnpacked unpacks b and appends the words to dst, at most max bytes of them. They need not be a message. After an
+// AppendUnpackedWords unpacks b and appends the words to dst, at most max bytes of them. They need not be a message. After an
 // error dst is returned as it was. dst may share memory with b: then the result is in new memory.
 //
-// The error is a *FrameError: Truncated if b ends inside a group, or TooLarge with the number of words.
-func AppendUnpacked(dst, b []byte, max int) ([]byte, error) {
+// The error is a *FrameError: ReasonTruncated if b ends inside a group, or ReasonTooLarge with the number of words.
+func AppendUnpackedWords(dst, b []byte, max int) ([]byte, error) {
 	r := C.capvet_go_unpack(pointer(b), C.size_t(len(b)), nil, 0)
 	if r.answer != C.CAPVET_OK && r.answer != C.CAPVET_BUFFER_TOO_SMALL {
 		return dst, &FrameError{Reason: Reason(r.answer)}
 	}
 	if max < 0 || uint64(r.required) > uint64(max) {
-		return dst, &FrameError{Reason: TooLarge, Detail: uint64(r.required) / 8}
+		return dst, &FrameError{Reason: ReasonTooLarge, Words: uint64(r.required) / 8}
 	}
 	grown := grow(dst, b, int(r.required))
 	out, size := spare(grown)
@@ -44,17 +46,13 @@ func AppendUnpacked(dst, b []byte, max int) ([]byte, error) {
 // every reader takes the result. No pointer is checked. After an error dst is returned as it was. dst may share memory
 // with b: then the result is in new memory.
 //
-// Only Limits.MessageWords and Limits.AllowTrailing have an effect. The error is a *FrameError or a *LimitsError.
-func AppendPackedMessage(dst, b []byte, l Limits) ([]byte, error) {
-	n, err := inputLength(b, l)
-	if err != nil {
-		return dst, err
-	}
-	grown := grow(dst, b, packBound(n))
+// Only Limits.MessageWords has an effect. The error is a *FrameError or a *LimitsError.
+func AppendPackedMessage(dst, b []byte, l *Limits) ([]byte, error) {
+	grown := grow(dst, b, packBound(len(b)))
 	out, size := spare(grown)
-	r := C.capvet_go_pack_message(pointer(b), C.size_t(len(b)), l.raw(), out, size)
+	r := C.capvet_go_pack_message(pointer(b), C.size_t(len(b)), l.raw(whole), out, size)
 	if r.answer != C.CAPVET_OK {
-		return dst, errorOf(&r, l)
+		return dst, errorOf(&r, nil, l.orDefault())
 	}
 	return grown[:len(dst)+int(r.required)], nil
 }

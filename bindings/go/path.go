@@ -5,31 +5,41 @@ import "C"
 
 import "strconv"
 
-// Path returns the path to the pointer that e names in the message b, such as "/p0/i7/p2": which field is refused. It is a
-// path as Get takes it, and "/" for the root. It is found by one more walk up to this pointer.
-//
-// It is "" if e names no pointer: the reason is ManySegments or NoRoot. It may be "" or another path if b or l are not
-// those of the refusal.
-func (e *Refusal) Path(b []byte, l Limits) string {
-	return pathOf(b, l, e.Pointers)
+// Path returns the path to the pointer that e names, such as "/p0/i7/p2": which field is refused. It is a path as
+// Message.Get takes it, and "/" for the root. It is found by one more walk up to this pointer. It is "" if e names no
+// pointer.
+func (e *Refusal) Path() string {
+	return e.pathOf(e.Pointer)
 }
 
 // EarlierPath returns the path to the first pointer that uses a word which the pointer of e uses too: the other pointer of
 // an overlap. It is found by three more walks up to the pointer.
 //
 // It is "" if no pointer before that one uses such a word, or if Path returns "".
-func (e *Refusal) EarlierPath(b []byte, l Limits) string {
-	r := C.capvet_go_earlier_pointer(pointer(b), C.size_t(len(b)), l.raw(), C.uint64_t(e.Pointers))
+func (e *Refusal) EarlierPath() string {
+	number, _ := e.earlier()
+	return e.pathOf(number)
+}
+
+// earlier returns the number and the position of the first pointer that uses a word which the pointer of e uses too. The
+// number is 0 if there is none.
+func (e *Refusal) earlier() (uint64, Position) {
+	r := C.capvet_go_earlier_pointer(pointer(e.unvetted), C.size_t(len(e.unvetted)), e.limits.raw(whole), C.uint64_t(e.Pointer))
 	if r.answer != C.CAPVET_OK {
-		return ""
+		return 0, Position{}
 	}
-	return pathOf(b, l, uint64(r.report.pointers))
+	return uint64(r.report.pointers), positionOf(&r.report)
 }
 
 // pathOf returns the path to the pointer of this number in preorder, or "".
-func pathOf(b []byte, l Limits, number uint64) string {
+func (e *Refusal) pathOf(number uint64) string {
+	return pathOf(e.unvetted, &e.limits, number)
+}
+
+// pathOf returns the path to the pointer of this number in a message, or "".
+func pathOf(b []byte, l *Limits, number uint64) string {
 	var steps [C.CAPVET_MAX_DEPTH]C.capvet_step
-	r := C.capvet_go_pointer_path(pointer(b), C.size_t(len(b)), l.raw(), C.uint64_t(number), &steps[0], C.size_t(len(steps)))
+	r := C.capvet_go_pointer_path(pointer(b), C.size_t(len(b)), l.raw(whole), C.uint64_t(number), &steps[0], C.size_t(len(steps)))
 	if r.answer != C.CAPVET_OK {
 		return ""
 	}

@@ -2,7 +2,6 @@ package capvet_test
 
 import (
 	"encoding/binary"
-	"errors"
 	"strings"
 	"testing"
 
@@ -22,22 +21,18 @@ func TestPath(t *testing.T) {
 	for _, test := range []struct {
 		name string
 		b    []byte
-		l    capvet.Limits
+		l    *capvet.Limits
 		path string
 	}{
-		{"the root", framed(1 << 34), capvet.Limits{}, "/"},
-		{"a pointer of a struct", framed(2<<48, 0, 1<<34), capvet.Limits{}, "/p1"},
-		{"a pointer of an element", framed(1|7<<32|4<<35, 2<<2|2<<48, 0, 0, 0, 1<<34), capvet.Limits{}, "/i1/p1"},
-		{"the longest path", framed(0xfffffffc | 1<<48), capvet.Limits{Depth: 256}, strings.Repeat("/p0", 256)},
-		{"not strict", framed(1<<48, 2|2<<3, 0), capvet.Limits{}, "/p0"},
-		{"without a table", framed(1<<48, 1<<34)[8:], capvet.Limits{NoTable: true}, "/p0"},
-		{"no root", framed(), capvet.Limits{}, ""},
+		{"the root", framed(1 << 34), nil, "/"},
+		{"a pointer of a struct", framed(2<<48, 0, 1<<34), nil, "/p1"},
+		{"a pointer of an element", framed(1|7<<32|4<<35, 2<<2|2<<48, 0, 0, 0, 1<<34), nil, "/i1/p1"},
+		{"the longest path", framed(0xfffffffc | 1<<48), with(capvet.Limits{Depth: 256}), strings.Repeat("/p0", 256)},
+		{"not strict", framed(1<<48, 2|2<<3, 0), nil, "/p0"},
+		{"no root", framed(), nil, ""},
 	} {
-		_, err := capvet.Vet(test.b, test.l)
-		var refusal *capvet.Refusal
-		if !errors.As(err, &refusal) {
-			t.Errorf("%s: %v", test.name, err)
-		} else if path := refusal.Path(test.b, test.l); path != test.path {
+		refusal := refused(t, test.b, test.l)
+		if path := refusal.Path(); path != test.path {
 			t.Errorf("%s: %q, want %q", test.name, path, test.path)
 		}
 	}
@@ -46,33 +41,31 @@ func TestPath(t *testing.T) {
 func TestPathOfAnOverlap(t *testing.T) {
 	// (two pointers to one struct of one word)
 	b := framed(2<<48, 1<<2|1<<32, 1<<32, 7)
-	_, err := capvet.VetExclusive(b, capvet.Limits{})
-	var refusal *capvet.Refusal
-	if !errors.As(err, &refusal) || refusal.Reason != capvet.Overlap {
-		t.Fatal(err)
+	refusal := refused(t, b, exclusive(nil))
+	if refusal.Reason != capvet.ReasonOverlap {
+		t.Fatal(refusal)
 	}
-	if path := refusal.Path(b, capvet.Limits{}); path != "/p1" {
+	if path := refusal.Path(); path != "/p1" {
 		t.Errorf("%q", path)
 	}
-	if path := refusal.Path(nil, capvet.Limits{}); path != "" {
-		t.Errorf("%q of no bytes", path)
-	}
-	if path := refusal.EarlierPath(b, capvet.Limits{}); path != "/p0" {
+	if path := refusal.EarlierPath(); path != "/p0" {
 		t.Errorf("%q of the earlier pointer", path)
 	}
-	if path := refusal.EarlierPath(nil, capvet.Limits{}); path != "" {
+	if path := (&capvet.Refusal{Pointer: 1}).Path(); path != "" {
+		t.Errorf("%q of no bytes", path)
+	}
+	if path := (&capvet.Refusal{Pointer: 1}).EarlierPath(); path != "" {
 		t.Errorf("%q of the earlier pointer of no bytes", path)
 	}
 }
 
 func TestNoPointerUsesTheRootWordBefore(t *testing.T) {
 	b := framed(1<<48, 0xfffffff8|1<<32)
-	_, err := capvet.VetExclusive(b, capvet.Limits{})
-	var refusal *capvet.Refusal
-	if !errors.As(err, &refusal) || refusal.Reason != capvet.Overlap {
-		t.Fatal(err)
+	refusal := refused(t, b, exclusive(nil))
+	if refusal.Reason != capvet.ReasonOverlap {
+		t.Fatal(refusal)
 	}
-	if path := refusal.EarlierPath(b, capvet.Limits{}); path != "" {
+	if path := refusal.EarlierPath(); path != "" {
 		t.Errorf("%q", path)
 	}
 }

@@ -5,7 +5,6 @@ import (
 	"errors"
 	"flag"
 	"fmt"
-	"io"
 	"math/rand"
 	"os/exec"
 	"path/filepath"
@@ -27,14 +26,14 @@ var (
 // runs are options of the program, each with the limits that have the same effect.
 var runs = []struct {
 	options []string
-	limits  capvet.Limits
+	limits  *capvet.Limits
 }{
-	{[]string{"--strict", "--unamplified"}, capvet.Limits{}},
-	{[]string{"--unamplified"}, capvet.Limits{AllowNonstrict: true}},
-	{[]string{"--strict"}, capvet.Limits{AllowAmplified: true}},
-	{nil, capvet.Limits{AllowNonstrict: true, AllowAmplified: true}},
+	{[]string{"--strict", "--unamplified"}, nil},
+	{[]string{"--unamplified"}, with(capvet.Limits{AllowNonstrict: true})},
+	{[]string{"--strict"}, with(capvet.Limits{AllowAmplified: true})},
+	{nil, with(capvet.Limits{AllowNonstrict: true, AllowAmplified: true})},
 	{[]string{"--strict", "--unamplified", "--size", "392", "--words", "300", "--depth", "6"},
-		capvet.Limits{MessageWords: 392, Charge: 300, Depth: 6}},
+		with(capvet.Limits{MessageWords: 392, Charge: 300, Depth: 6})},
 }
 
 // run returns what the program writes to its standard output, to its standard error, and its status.
@@ -70,17 +69,17 @@ func changed(n int) [][]byte {
 // scanned returns what the program should write for a stream, by a Scanner.
 func scanned(s *capvet.Scanner, length int) (text, said string, status int) {
 	var all strings.Builder
-	for s.Scan() {
-		line := s.Report().String()
-		if refusal := s.Refusal(); refusal != nil {
+	for _, refusal, ok := next(s); ok; _, refusal, ok = next(s) {
+		line := s.Message().Report().String()
+		if refusal != nil {
 			line, status = refusal.Line(), 1
 		}
 		fmt.Fprintf(&all, "message %d: %s\n", s.Number(), line)
 	}
 	var frame *capvet.FrameError
 	if errors.As(s.Err(), &frame) {
-		fault := fmt.Sprintf("%v %d", frame.Reason, frame.Detail)
-		if frame.Reason == capvet.Truncated {
+		fault := frame.Line()
+		if frame.Reason == capvet.ReasonTruncated {
 			fault = fmt.Sprintf("Truncated at byte %d", length)
 		}
 		return all.String(), fmt.Sprintf("capvet: message %d: %s\n", s.Number(), fault), 1
@@ -93,22 +92,17 @@ func scanned(s *capvet.Scanner, length int) (text, said string, status int) {
 
 // compare compares what the program writes for a stream with what two Scanners give, one of the stream and one of its
 // packed form.
-func compare(t *testing.T, name string, stream []byte, exclusive bool) {
+func compare(t *testing.T, name string, stream []byte, isExclusive bool) {
 	t.Helper()
 	for _, it := range runs {
-		words := append([]string{"vet"}, it.options...)
-		s := capvet.NewScanner(bytes.NewReader(stream), it.limits)
-		if exclusive {
-			words = append(words, "--exclusive")
-			s.Exclusive()
+		words, limits := append([]string{"vet"}, it.options...), it.limits
+		if isExclusive {
+			words, limits = append(words, "--exclusive"), exclusive(limits)
 		}
-		equal(t, name, stream, words, s)
+		equal(t, name, stream, words, capvet.NewScanner(bytes.NewReader(stream), limits))
 		if len(stream)%8 == 0 {
-			packed := capvet.AppendPacked(nil, stream)
-			s = capvet.NewPackedScanner(iotest.HalfReader(bytes.NewReader(packed)), it.limits)
-			if exclusive {
-				s.Exclusive()
-			}
+			packed := packedWords(stream)
+			s := capvet.NewPackedScanner(iotest.HalfReader(bytes.NewReader(packed)), limits)
 			equal(t, name+", packed", packed, append(words, "--packed"), s)
 		}
 	}
@@ -139,7 +133,7 @@ func TestChangedMessagesAsTheProgram(t *testing.T) {
 	compare(t, "changed messages", join(messages...), true)
 	accepted := 0
 	for _, b := range messages {
-		if _, err := capvet.Vet(b, capvet.Limits{}); err == nil {
+		if _, err := capvet.Vet(b, nil); err == nil {
 			accepted++
 		}
 	}
@@ -157,7 +151,7 @@ func frames(t *testing.T) (messages [][]byte) {
 	}
 	for _, file := range files {
 		for rest := sample(filepath.Base(file)); len(rest) > 0; {
-			length, err := capvet.FrameLength(rest, capvet.Limits{})
+			length, err := capvet.FrameLength(rest, nil)
 			if err != nil {
 				t.Fatal(file, err)
 			}
@@ -177,14 +171,12 @@ func TestExplanationsAsTheProgram(t *testing.T) {
 		var stream, text bytes.Buffer
 		number := 0
 		for _, b := range messages {
-			lines, err := capvet.Explain(b, it.limits)
-			report, fault := capvet.Vet(b, it.limits)
-			verdict := report.String()
+			m, err := capvet.Vet(b, it.limits)
+			verdict, lines := m.Report().String(), ""
 			var refusal *capvet.Refusal
-			if errors.As(fault, &refusal) {
-				verdict, fault = refusal.Line(), nil
+			if errors.As(err, &refusal) {
+				verdict, lines, err = refusal.Line(), refusal.Explain(), nil
 			}
-			same(t, "Explain", fault, err)
 			// (the program ends at a message without a frame)
 			if err == nil {
 				fmt.Fprintf(&text, "message %d: %s\n%s", number, verdict, lines)
@@ -202,12 +194,12 @@ func TestExplanationsAsTheProgram(t *testing.T) {
 
 func TestCutStreamsAsTheProgram(t *testing.T) {
 	stream := join(sample("shared.bin"), sample("cycle.bin"), sample("contacts-many-segments.bin"), sample("contacts.bin"))
-	packed := capvet.AppendPacked(nil, stream)
+	packed := packedWords(stream)
 	for at := 0; at <= len(stream); at += *cuts {
-		s := capvet.NewScanner(bytes.NewReader(stream[:at]), capvet.Limits{})
+		s := capvet.NewScanner(bytes.NewReader(stream[:at]), nil)
 		equal(t, fmt.Sprint("cut at ", at), stream[:at], []string{"vet", "--strict", "--unamplified"}, s)
 		if at <= len(packed) {
-			s := capvet.NewPackedScanner(bytes.NewReader(packed[:at]), capvet.Limits{})
+			s := capvet.NewPackedScanner(bytes.NewReader(packed[:at]), nil)
 			equal(t, fmt.Sprint("packed, cut at ", at), packed[:at], []string{"vet", "--strict", "--unamplified", "--packed"}, s)
 		}
 	}
@@ -220,7 +212,7 @@ func TestChangedTablesAsTheProgram(t *testing.T) {
 	for at := 0; at < table; at++ {
 		b := join(contacts)
 		b[at] ^= 1 << (at % 8)
-		s := capvet.NewScanner(bytes.NewReader(b), capvet.Limits{})
+		s := capvet.NewScanner(bytes.NewReader(b), nil)
 		equal(t, fmt.Sprint("byte ", at), b, []string{"vet", "--strict", "--unamplified"}, s)
 	}
 }
@@ -230,7 +222,7 @@ func TestCanonicalAsTheProgram(t *testing.T) {
 	forms := 0
 	for _, b := range messages {
 		want, _, status := run(t, b, "canon", "--strict", "--unamplified")
-		words, err := capvet.AppendCanonical(make([]byte, 8), b, capvet.Limits{})
+		words, err := canonical(make([]byte, 8), b)
 		if err != nil {
 			words = nil
 		} else {
@@ -241,15 +233,15 @@ func TestCanonicalAsTheProgram(t *testing.T) {
 			t.Fatalf("%x: %v", b, err)
 		}
 		for _, b := range [][]byte{b, []byte(want)} {
-			is, err := capvet.IsCanonical(b, capvet.Limits{AllowAmplified: true})
-			line := map[bool]string{false: "not canonical", true: "canonical"}[is]
+			m, err := capvet.Vet(b, with(capvet.Limits{AllowAmplified: true}))
+			line := map[bool]string{false: "not canonical", true: "canonical"}[m.IsCanonical()]
 			var refusal *capvet.Refusal
 			if errors.As(err, &refusal) {
 				line = refusal.Line()
 			}
 			if len(b) > 0 {
 				line = "message 0: " + line + "\n"
-			} else if errors.Is(err, io.EOF) {
+			} else if errors.Is(err, capvet.ReasonNoMessage) {
 				line = ""
 			}
 			if want, _, _ := run(t, b, "check", "--strict"); line != want {
@@ -284,15 +276,15 @@ func TestSegmentsAsTheProgram(t *testing.T) {
 
 func TestPackingAsTheProgram(t *testing.T) {
 	for _, b := range append(changed(*count/20), sample("stream-of-four.bin"), make([]byte, 8*600), many(512)) {
-		packed := capvet.AppendPacked(nil, b)
+		packed := packedWords(b)
 		if want, _, _ := run(t, b, "pack"); string(packed) != want {
 			t.Fatalf("%x", b)
 		}
-		if words, err := capvet.AppendUnpacked(nil, packed, len(b)); err != nil || !bytes.Equal(words, b) {
+		if words, err := capvet.AppendUnpackedWords(nil, packed, len(b)); err != nil || !bytes.Equal(words, b) {
 			t.Fatal(err)
 		}
-		message, err := capvet.AppendPackedMessage(nil, b, capvet.Limits{AllowTrailing: true})
-		length, _ := capvet.FrameLength(b, capvet.Limits{})
+		length, _ := capvet.FrameLength(b, nil)
+		message, err := capvet.AppendPackedMessage(nil, b[:length], nil)
 		if words, _, status := run(t, message, "unpack"); err != nil || words != string(b[:length]) || status != 0 {
 			t.Fatal(err)
 		}
@@ -300,28 +292,28 @@ func TestPackingAsTheProgram(t *testing.T) {
 }
 
 // tree writes the lines of the node at a path and of all nodes below it, as the program dumps them.
-func tree(t *testing.T, all *strings.Builder, b []byte, l capvet.Limits, path, label string, level int) {
-	node, ok, err := capvet.Get(b, path, l)
+func tree(t *testing.T, all *strings.Builder, m capvet.Message, path, label string, level int) {
+	node, ok, err := m.Get(path)
 	if !ok || err != nil {
 		t.Fatal(path, err)
 	}
-	if node.Data != nil && len(node.Data) > 0 && &node.Data[0] != &b[node.Offset] {
+	if node.Data != nil && len(node.Data) > 0 && &node.Data[0] != &m.Bytes()[node.Offset] {
 		t.Fatal(path, node.Offset)
 	}
 	head, step, below, words := "null", "i", node.Count, ""
 	switch node.Kind {
-	case capvet.Struct:
+	case capvet.KindStruct:
 		head, step, below, words = fmt.Sprintf("struct %d %d", node.DataWords, node.Pointers), "p", node.Pointers, "d"
-	case capvet.Values:
+	case capvet.KindValues:
 		head, below, words = fmt.Sprintf("list %d %d", node.Element, node.Count), 0, "w"
-	case capvet.Pointers:
+	case capvet.KindPointers:
 		head = fmt.Sprintf("pointers %d", node.Count)
-	case capvet.Structs:
+	case capvet.KindStructs:
 		head = fmt.Sprintf("structs %d %d %d", node.Count, node.DataWords, node.Pointers)
 		if node.DataWords+node.Pointers == 0 {
 			below = 0
 		}
-	case capvet.Capability:
+	case capvet.KindCapability:
 		head = fmt.Sprintf("cap %d", node.Capability)
 	}
 	indent := strings.Repeat("  ", level)
@@ -336,16 +328,15 @@ func tree(t *testing.T, all *strings.Builder, b []byte, l capvet.Limits, path, l
 		}
 	}
 	for i := 0; i < below; i++ {
-		tree(t, all, b, l, fmt.Sprintf("%s/%s%d", strings.TrimRight(path, "/"), step, i), fmt.Sprint(step, i), level+1)
+		tree(t, all, m, fmt.Sprintf("%s/%s%d", strings.TrimRight(path, "/"), step, i), fmt.Sprint(step, i), level+1)
 	}
 }
 
 func TestTreesAsTheProgram(t *testing.T) {
 	messages := append(changed(*count/20), sample("contacts.bin"), sample("telemetry.bin"), capability)
 	var all strings.Builder
-	limits := capvet.Limits{}
 	for number, b := range messages {
-		report, err := capvet.Vet(b, limits)
+		m, err := capvet.Vet(b, nil)
 		if err != nil {
 			var refusal *capvet.Refusal
 			if !errors.As(err, &refusal) {
@@ -354,8 +345,8 @@ func TestTreesAsTheProgram(t *testing.T) {
 			fmt.Fprintf(&all, "message %d: %s\n", number, refusal.Line())
 			continue
 		}
-		fmt.Fprintf(&all, "message %d: %v\n", number, report)
-		tree(t, &all, b, limits, "/", "root", 0)
+		fmt.Fprintf(&all, "message %d: %v\n", number, m.Report())
+		tree(t, &all, m, "/", "root", 0)
 	}
 	want, _, _ := run(t, join(messages...), "dump", "--strict", "--unamplified")
 	if all.String() != want {

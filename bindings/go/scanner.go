@@ -19,20 +19,16 @@ const (
 
 // Scanner reads a stream of messages from an io.Reader and checks each one.
 //
-//	s := capvet.NewScanner(conn, capvet.Limits{})
+//	s := capvet.NewScanner(conn, nil)
 //	for s.Scan() {
-//		if refusal := s.Refusal(); refusal != nil {
-//			log.Printf("message %d at byte %d: %v", s.Number(), s.Offset(), refusal)
-//			continue
-//		}
-//		handle(s.Bytes())
+//		handle(s.Message())
 //	}
 //	if err := s.Err(); err != nil {
 //		return err
 //	}
 //
-// A refused message does not end the scan: its frame says where the next one starts. Scan returns a message as soon as
-// its bytes have come, whatever comes after them. An error of the reader ends the scan.
+// A refused message ends the loop, and Err returns its *Refusal. To go on with the message after it, call Scan again. So does
+// a timeout of the reader, an error whose method Timeout returns true: no byte is lost. Any other error ends the scan. Scan returns a message as soon as its bytes have come, whatever comes after them.
 //
 // A Scanner holds one message, whose size Limits.MessageWords bounds. Its buffer grows as bytes arrive, not by what a table
 // claims. While it waits for the next message, the garbage collector may free a buffer of more than 64 KiB. A Scanner
@@ -40,8 +36,7 @@ const (
 type Scanner struct {
 	reader io.Reader
 	limits Limits
-	check  func([]byte, Limits) (Report, error)
-	next   func(*Scanner) error
+	next   func(*Scanner) (Message, error)
 
 	change func(bytes int) bool // says whether the buffer may grow
 	buffer []byte               // the message so far
@@ -56,61 +51,81 @@ type Scanner struct {
 	number  int
 	offset  int64 // where the message starts
 	taken   int64 // the bytes of the stream that messages have, the part of the last one included
-	report  Report
-	refusal *Refusal
+	message Message
 	err     error
+	paused  bool // err is a timeout, and a part of the message may be there
+	ended   bool // err is one after which there are no more messages
 }
 
-// NewScanner returns a Scanner for a stream of frames. Limits.AllowTrailing has no effect.
-func NewScanner(r io.Reader, l Limits) *Scanner {
-	return &Scanner{reader: r, limits: l, check: Vet, next: (*Scanner).readFrame, number: -1}
+// NewScanner returns a Scanner for a stream of frames.
+func NewScanner(r io.Reader, l *Limits) *Scanner {
+	return &Scanner{reader: r, limits: l.orDefault(), next: (*Scanner).readMessage, number: -1}
 }
 
-// NewPackedScanner returns a Scanner for a packed stream. Bytes returns messages unpacked. Limits.AllowTrailing has no
-// effect.
-func NewPackedScanner(r io.Reader, l Limits) *Scanner {
-	return &Scanner{reader: r, limits: l, check: Vet, next: (*Scanner).unpackFrame, ahead: make([]byte, step), number: -1}
+// NewPackedScanner returns a Scanner for a packed stream. Its messages are unpacked.
+func NewPackedScanner(r io.Reader, l *Limits) *Scanner {
+	return &Scanner{reader: r, limits: l.orDefault(), next: (*Scanner).unpackMessage, ahead: make([]byte, step), number: -1}
 }
 
-// Exclusive makes the Scanner refuse messages in which a word is used twice. Call it before Scan.
-func (s *Scanner) Exclusive() {
-	s.check = VetExclusive
-}
-
-// ErrNoSpace is the error of a scan whose buffer was not allowed to grow: see Bound.
+// ErrNoSpace is the error of a scan whose buffer was not allowed to grow: see Scanner.SetBound.
 var ErrNoSpace = errors.New("capvet: the buffer of the message may not grow")
 
-// Bound makes the Scanner ask before its buffer grows. change is called with the bytes that are to be added; if it returns
+// SetBound makes the Scanner ask before its buffer grows. change is called with the bytes that are to be added; if it returns
 // false, the scan ends with ErrNoSpace. It is also called, with a negative number, for bytes that are no longer used. So many
-// scanners can share a bound. The 64 KiB that a packed stream is read ahead are not a part of it. Call Bound before Scan.
+// scanners can share a bound. The 64 KiB that a packed stream is read ahead are not a part of it. Call SetBound before Scan.
 //
 // A scan that has ended uses no bytes. If you stop earlier, the bytes that were added and not taken away are those in use.
-func (s *Scanner) Bound(change func(bytes int) bool) {
+func (s *Scanner) SetBound(change func(bytes int) bool) {
 	s.change = change
 }
 
-// Scan reads and checks the next message. It returns false at the end of the stream or at an error of Err.
+// Scan reads and vets the next message. It returns false at the end of the stream, at a refused message, and at another
+// error of Err. After a refused message and after a timeout of the reader it may be called again.
 func (s *Scanner) Scan() bool {
-	if s.err != nil {
+	if s.ended {
 		return false
 	}
-	s.number++
-	s.offset = s.taken
-	s.release()
-	s.report, s.refusal = Report{}, nil
-	if s.err = s.next(s); s.err == nil {
-		s.report, s.err = s.check(s.buffer, s.limits)
-		if errors.As(s.err, &s.refusal) {
-			s.err = nil
-		}
+	if !s.paused {
+		s.number++
+		s.offset = s.taken
+		s.release()
 	}
-	if s.err != nil {
-		s.replace(nil)
+	s.message, s.err = Message{}, nil
+	if s.limits.isAbove() {
+		s.err = &LimitsError{Limits: s.limits}
+	} else {
+		s.message, s.err = s.next(s)
 	}
-	return s.err == nil
+	s.paused = false
+	if s.err == nil {
+		return true
+	}
+	s.err = placed(s.err, s.number, s.offset)
+	if _, isRefused := s.err.(*Refusal); isRefused {
+		return false
+	}
+	if isTimeout(s.err) {
+		s.paused, s.readErr = true, nil
+		return false
+	}
+	s.ended = true
+	s.replace(nil)
+	return false
 }
 
-// Number returns the number of the message, from 0. After the scan it is how many messages there were.
+// isTimeout reports whether an error is about a deadline, so that reading may go on.
+func isTimeout(err error) bool {
+	var timeout interface{ Timeout() bool }
+	return errors.As(err, &timeout) && timeout.Timeout()
+}
+
+// Message returns the message that Scan has accepted, or the zero Message if there is none. The next call of Scan overwrites
+// its bytes: Message.Clone keeps them.
+func (s *Scanner) Message() Message {
+	return s.message
+}
+
+// Number returns the number of the message, accepted or refused, from 0. After the scan it is how many messages there were.
 func (s *Scanner) Number() int {
 	return s.number
 }
@@ -127,34 +142,9 @@ func (s *Scanner) Inside() bool {
 	return len(s.buffer) > 0 || len(s.packed) > 0 || s.state != C.capvet_unpacking{}
 }
 
-// Bytes returns the message as a plain frame, or nil if it was refused. The next call of Scan overwrites it.
-func (s *Scanner) Bytes() []byte {
-	if s.refusal != nil {
-		return nil
-	}
-	return s.Raw()
-}
-
-// Raw returns the frame of the message even if it was refused, for a log. The next call of Scan overwrites it.
-func (s *Scanner) Raw() []byte {
-	if len(s.buffer) == 0 {
-		return nil
-	}
-	return s.buffer[:len(s.buffer):len(s.buffer)]
-}
-
-// Refusal returns why the message was refused, or nil if it was accepted.
-func (s *Scanner) Refusal() *Refusal {
-	return s.refusal
-}
-
-// Report returns the report of an accepted message.
-func (s *Scanner) Report() Report {
-	return s.report
-}
-
-// Err returns why the scan ended. It is nil at the end of the stream, and a *FrameError if the stream ends inside a
-// message or stops being one. Limits that are not valid give a *LimitsError. Otherwise it is the error of the reader.
+// Err returns why Scan returned false: nil at the end of the stream, and a *Refusal of a refused message. It is a *FrameError
+// if the stream ends inside a message or stops being one, and a *LimitsError for limits that are not valid. Otherwise it is
+// the error of the reader.
 func (s *Scanner) Err() error {
 	if s.err == io.EOF {
 		return nil
@@ -223,63 +213,78 @@ func (s *Scanner) reserve(n int) error {
 	return nil
 }
 
-// readFrame reads the frame of the next message into the buffer. The error is io.EOF between two messages.
-func (s *Scanner) readFrame() error {
-	for {
-		_, err := FrameLength(s.buffer, s.limits)
-		var frame *FrameError
-		if !errors.As(err, &frame) || frame.Required == 0 {
+// fill reads until the buffer has the bytes that are required. The error is io.EOF if not even the first of them came.
+func (s *Scanner) fill(required int) error {
+	for len(s.buffer) < required {
+		if err := s.reserve(required); err != nil {
 			return err
 		}
-		for required := int(frame.Required); len(s.buffer) < required; {
-			if err := s.reserve(required); err != nil {
-				return err
-			}
-			end := cap(s.buffer)
-			if end > required {
-				end = required
-			}
-			n, err := s.read(s.buffer[len(s.buffer):end])
-			if err == io.EOF && len(s.buffer) > 0 {
-				return &FrameError{Reason: Truncated, Required: frame.Required}
-			}
-			if err != nil {
-				return err
-			}
-			s.buffer = s.buffer[:len(s.buffer)+n]
-			s.taken += int64(n)
+		end := cap(s.buffer)
+		if end > required {
+			end = required
 		}
+		n, err := s.read(s.buffer[len(s.buffer):end])
+		if err == io.EOF && len(s.buffer) > 0 {
+			return &FrameError{Reason: ReasonTruncated, Required: uint64(required)}
+		}
+		if err != nil {
+			return err
+		}
+		s.buffer = s.buffer[:len(s.buffer)+n]
+		s.taken += int64(n)
+	}
+	return nil
+}
+
+// readMessage reads the next message of a plain stream and vets it. The error is io.EOF between two messages.
+func (s *Scanner) readMessage() (Message, error) {
+	for required := 8; ; {
+		if err := s.fill(required); err != nil {
+			return Message{}, err
+		}
+		var r C.capvet_go_result
+		answer(&r, s.buffer, &s.limits, whole)
+		if r.answer != C.CAPVET_TRUNCATED {
+			return messageOf(&r, s.buffer, &s.limits)
+		}
+		required = int(r.report.input_required)
 	}
 }
 
-// unpackFrame unpacks the frame of the next message into the buffer. The error is io.EOF between two messages.
-func (s *Scanner) unpackFrame() error {
+// unpackMessage unpacks the next message of a packed stream and vets it. The error is io.EOF between two messages.
+func (s *Scanner) unpackMessage() (Message, error) {
 	for {
 		out, size := spare(s.buffer[:0])
-		u := C.capvet_go_unpack_message(pointer(s.packed), C.size_t(len(s.packed)), s.limits.raw(), out, size, s.state)
+		u := C.capvet_go_unpack_message(pointer(s.packed), C.size_t(len(s.packed)), s.limits.raw(whole), out, size, s.state)
 		s.packed, s.state = s.packed[u.consumed:], u.state
 		s.taken += int64(u.consumed)
 		s.buffer = s.buffer[:s.state.written]
 		switch u.result.answer {
 		case C.CAPVET_OK:
 			s.buffer = s.buffer[:u.result.report.length]
-			return nil
+			return vet(s.buffer, &s.limits, whole)
 		case C.CAPVET_BUFFER_TOO_SMALL:
 			if err := s.reserve(int(u.result.required)); err != nil {
-				return err
+				return Message{}, err
 			}
 		case C.CAPVET_NO_MESSAGE, C.CAPVET_TRUNCATED:
-			n := copy(s.ahead, s.packed)
-			more, err := s.read(s.ahead[n:])
-			s.packed = s.ahead[:n+more]
-			if err == io.EOF && u.result.answer == C.CAPVET_TRUNCATED {
-				return &FrameError{Reason: Truncated}
-			}
-			if err != nil {
-				return err
+			if err := s.readAhead(u.result.answer == C.CAPVET_TRUNCATED); err != nil {
+				return Message{}, err
 			}
 		default:
-			return errorOf(&u.result, s.limits)
+			return Message{}, errorOf(&u.result, nil, s.limits)
 		}
 	}
+}
+
+// readAhead reads once more of a packed stream, after the bytes that are not unpacked. isInside says that a part of a message
+// has come.
+func (s *Scanner) readAhead(isInside bool) error {
+	n := copy(s.ahead, s.packed)
+	more, err := s.read(s.ahead[n:])
+	s.packed = s.ahead[:n+more]
+	if err == io.EOF && isInside {
+		return &FrameError{Reason: ReasonTruncated}
+	}
+	return err
 }

@@ -18,22 +18,33 @@ import (
 // forms are the scanners, each with what makes the bytes of a message for it.
 var forms = []struct {
 	name    string
-	scanner func(io.Reader, capvet.Limits) *capvet.Scanner
+	scanner func(io.Reader, *capvet.Limits) *capvet.Scanner
 	encode  func(message []byte) []byte
 }{
 	{"plain", capvet.NewScanner, func(message []byte) []byte { return message }},
-	{"packed", capvet.NewPackedScanner, func(message []byte) []byte { return capvet.AppendPacked(nil, message) }},
+	{"packed", capvet.NewPackedScanner, func(message []byte) []byte { return packedWords(message) }},
+}
+
+// next scans the next message, accepted or refused, and returns its bytes and its refusal. ok is false at the end of the scan.
+func next(s *capvet.Scanner) (b []byte, refusal *capvet.Refusal, ok bool) {
+	if s.Scan() {
+		return s.Message().Bytes(), nil, true
+	}
+	if errors.As(s.Err(), &refusal) {
+		return refusal.Unvetted(), refusal, true
+	}
+	return nil, nil, false
 }
 
 // scan returns the frames and refusals of a stream, a line for each, and how the scan ended.
 func scan(s *capvet.Scanner) (lines string, err error) {
 	var all strings.Builder
-	for s.Scan() {
-		if refusal := s.Refusal(); refusal != nil {
-			all.WriteString(refusal.Line() + "\n")
-			continue
+	for _, refusal, ok := next(s); ok; _, refusal, ok = next(s) {
+		line := s.Message().Report().String()
+		if refusal != nil {
+			line = refusal.Line()
 		}
-		all.WriteString(s.Report().String() + "\n")
+		all.WriteString(line + "\n")
 	}
 	return all.String(), s.Err()
 }
@@ -59,12 +70,13 @@ func TestScannerReadsOneFrame(t *testing.T) {
 		stream := bytes.NewReader(join(message, null, message))
 		for _, r := range []io.Reader{stream, iotest.OneByteReader(stream), iotest.HalfReader(stream)} {
 			stream.Seek(0, io.SeekStart)
-			s := capvet.NewScanner(&strict{t, r, len(message)}, capvet.Limits{})
-			if !s.Scan() || !bytes.Equal(s.Raw(), message) || s.Number() != 0 {
-				t.Fatal(s.Err(), len(s.Raw()))
+			s := capvet.NewScanner(&strict{t, r, len(message)}, nil)
+			b, refusal, ok := next(s)
+			if !ok || !bytes.Equal(b, message) || s.Number() != 0 {
+				t.Fatal(s.Err(), len(b))
 			}
-			if (s.Refusal() == nil) != bytes.Equal(s.Bytes(), message) || (s.Refusal() != nil) != (s.Bytes() == nil) {
-				t.Fatal(s.Refusal())
+			if (refusal == nil) != bytes.Equal(s.Message().Bytes(), message) || (refusal != nil) != (s.Message().Bytes() == nil) {
+				t.Fatal(refusal)
 			}
 		}
 	}
@@ -74,11 +86,11 @@ func TestScannerReadsOneFrame(t *testing.T) {
 func TestScannerReadsNoMoreWithALongBuffer(t *testing.T) {
 	messages := [][]byte{large(1000), large(999), large(998), null, cycle, large(997)}
 	r := &strict{t, bytes.NewReader(join(messages...)), 0}
-	s := capvet.NewScanner(r, capvet.Limits{})
+	s := capvet.NewScanner(r, nil)
 	for i, message := range messages {
 		r.left += len(message)
-		if !s.Scan() || !bytes.Equal(s.Raw(), message) {
-			t.Fatal(i, s.Err(), len(s.Raw()))
+		if b, _, ok := next(s); !ok || !bytes.Equal(b, message) {
+			t.Fatal(i, s.Err(), len(b))
 		}
 	}
 }
@@ -86,13 +98,13 @@ func TestScannerReadsNoMoreWithALongBuffer(t *testing.T) {
 // A table that claims too much ends the scan after 8 bytes, and one that claims much has no memory before its words come.
 func TestScannerIsBounded(t *testing.T) {
 	claim := []byte{0, 0, 0, 0, 0, 0, 128, 0}
-	s := capvet.NewScanner(&strict{t, bytes.NewReader(join(claim, null)), 8}, capvet.Limits{MessageWords: 1<<23 - 1})
+	s := capvet.NewScanner(&strict{t, bytes.NewReader(join(claim, null)), 8}, with(capvet.Limits{MessageWords: 1<<23 - 1}))
 	_, err := scan(s)
-	same(t, "a claim", &capvet.FrameError{Reason: capvet.TooLarge, Detail: 1 << 23}, err)
+	same(t, "a claim", &capvet.FrameError{Reason: capvet.ReasonTooLarge, Words: 1 << 23}, err)
 	allocated := testing.Benchmark(func(b *testing.B) {
 		for i := 0; i < b.N; i++ {
-			_, err := scan(capvet.NewScanner(bytes.NewReader(join(claim, null)), capvet.Limits{}))
-			same(t, "a cut claim", &capvet.FrameError{Reason: capvet.Truncated, Required: 1<<26 + 8}, err)
+			_, err := scan(capvet.NewScanner(bytes.NewReader(join(claim, null)), nil))
+			same(t, "a cut claim", &capvet.FrameError{Reason: capvet.ReasonTruncated, Required: 1<<26 + 8}, err)
 		}
 	}).AllocedBytesPerOp()
 	if allocated > 256<<10 {
@@ -115,20 +127,19 @@ func large(words int) []byte {
 func TestScannersGrow(t *testing.T) {
 	messages := [][]byte{null, large(100000), null, large(1 << 20), large(9000)}
 	stream := join(messages...)
-	packed := capvet.AppendPacked(nil, stream)
+	packed := packedWords(stream)
 	for _, s := range []*capvet.Scanner{
-		capvet.NewScanner(bytes.NewReader(stream), capvet.Limits{}),
-		capvet.NewScanner(iotest.HalfReader(bytes.NewReader(stream)), capvet.Limits{}),
-		capvet.NewPackedScanner(bytes.NewReader(packed), capvet.Limits{}),
-		capvet.NewPackedScanner(iotest.HalfReader(bytes.NewReader(packed)), capvet.Limits{}),
+		capvet.NewScanner(bytes.NewReader(stream), nil),
+		capvet.NewScanner(iotest.HalfReader(bytes.NewReader(stream)), nil),
+		capvet.NewPackedScanner(bytes.NewReader(packed), nil),
+		capvet.NewPackedScanner(iotest.HalfReader(bytes.NewReader(packed)), exclusive(nil)),
 	} {
-		s.Exclusive()
 		for i, message := range messages {
-			if !s.Scan() || s.Number() != i || !bytes.Equal(s.Bytes(), message) || s.Report().Length != len(message) {
-				t.Fatal(i, s.Err(), s.Refusal())
+			if !s.Scan() || s.Number() != i || !bytes.Equal(s.Message().Bytes(), message) || s.Message().Report().Length != len(message) {
+				t.Fatal(i, s.Err())
 			}
 		}
-		if s.Scan() || s.Err() != nil || s.Number() != len(messages) || s.Bytes() != nil {
+		if s.Scan() || s.Err() != nil || s.Number() != len(messages) || s.Message().Bytes() != nil {
 			t.Fatal(s.Err())
 		}
 	}
@@ -144,14 +155,27 @@ func heap() uint64 {
 	return memory.HeapAlloc
 }
 
+// patience is how long a test waits for what has to come. Only a hang takes longer, however busy the machine is.
+const patience = 2 * time.Minute
+
+// comesDown waits until a MiB at most is in use more than before. It returns how much is, and whether it came to that. (A goroutine may
+// not have run yet that gives a buffer back)
+func comesDown(before uint64) (used int64, ok bool) {
+	for end := time.Now().Add(patience); ; time.Sleep(20 * time.Millisecond) {
+		if used = int64(heap() - before); used <= 1<<20 || time.Now().After(end) {
+			return used, used <= 1<<20
+		}
+	}
+}
+
 // A scanner that waits for its next message doesn't hold the buffer of a large one.
 func TestIdleScannersAreSmall(t *testing.T) {
 	message := large(2 << 20)
 	for _, form := range forms {
 		r, w := io.Pipe()
-		before, s := heap(), form.scanner(r, capvet.Limits{})
+		before, s := heap(), form.scanner(r, nil)
 		go w.Write(form.encode(message))
-		if !s.Scan() || !bytes.Equal(s.Bytes(), message) {
+		if !s.Scan() || !bytes.Equal(s.Message().Bytes(), message) {
 			t.Fatal(s.Err())
 		}
 		if used := int64(heap() - before); used < int64(len(message)) {
@@ -159,10 +183,10 @@ func TestIdleScannersAreSmall(t *testing.T) {
 		}
 		ended := make(chan bool)
 		go func() { ended <- s.Scan() }()
-		time.Sleep(50 * time.Millisecond)
-		if used := int64(heap() - before); used > 1<<20 {
+		if used, ok := comesDown(before); !ok {
 			t.Errorf("%s: %d bytes are in use by an idle scanner", form.name, used)
 		}
+		runtime.KeepAlive(message)
 		w.Close()
 		if <-ended {
 			t.Error("a message after the end")
@@ -175,12 +199,12 @@ func TestScannersKeepTheirBuffer(t *testing.T) {
 	defer debug.SetGCPercent(debug.SetGCPercent(-1))
 	// (each processor has a part of a pool that the others don't take from)
 	defer runtime.GOMAXPROCS(runtime.GOMAXPROCS(1))
-	message, count := large(1<<18), 40
+	message, count := large(1<<16), 160
 	for _, form := range forms {
 		stream := bytes.Repeat(form.encode(message), count)
 		var before, after runtime.MemStats
 		runtime.ReadMemStats(&before)
-		s := form.scanner(bytes.NewReader(stream), capvet.Limits{})
+		s := form.scanner(bytes.NewReader(stream), nil)
 		for s.Scan() {
 		}
 		runtime.ReadMemStats(&after)
@@ -203,14 +227,21 @@ func TestOffsets(t *testing.T) {
 		}
 		ends := append(starts[1:len(starts):len(starts)], int64(len(stream)))
 		for _, cut := range []int{0, 1} {
-			s := form.scanner(iotest.HalfReader(bytes.NewReader(stream[:len(stream)-cut])), capvet.Limits{})
+			s := form.scanner(iotest.HalfReader(bytes.NewReader(stream[:len(stream)-cut])), nil)
 			if s.Offset() != 0 {
 				t.Error(s.Offset())
 			}
-			for s.Scan() {
+			for _, refusal, ok := next(s); ok; _, refusal, ok = next(s) {
+				if refusal != nil && (refusal.Number != s.Number() || refusal.Offset != s.Offset()) {
+					t.Errorf("%s: refusal %d is at %d", form.name, refusal.Number, refusal.Offset)
+				}
 				if s.Offset() != starts[s.Number()] {
 					t.Errorf("%s: message %d is at %d and not at %d", form.name, s.Number(), s.Offset(), starts[s.Number()])
 				}
+			}
+			var frame *capvet.FrameError
+			if errors.As(s.Err(), &frame) && (frame.Number != s.Number() || frame.Offset != s.Offset()) {
+				t.Errorf("%s: the cut message %d is at %d", form.name, frame.Number, frame.Offset)
 			}
 			if s.Number() != len(messages)-cut || s.Offset() != ends[len(ends)-1-cut] && s.Offset() != starts[len(starts)-1] {
 				t.Errorf("%s: the end of %d messages is at %d", form.name, s.Number(), s.Offset())
@@ -229,8 +260,8 @@ func TestBoundedScanners(t *testing.T) {
 				stream = append(stream, form.encode(message)...)
 			}
 			used, peak := 0, 0
-			s := form.scanner(bytes.NewReader(stream), capvet.Limits{})
-			s.Bound(func(n int) bool {
+			s := form.scanner(bytes.NewReader(stream), nil)
+			s.SetBound(func(n int) bool {
 				if used+n > most {
 					return false
 				}
@@ -240,7 +271,7 @@ func TestBoundedScanners(t *testing.T) {
 				return true
 			})
 			for s.Scan() {
-				if used < len(s.Bytes()) || !bytes.Equal(s.Bytes(), messages[s.Number()]) {
+				if used < len(s.Message().Bytes()) || !bytes.Equal(s.Message().Bytes(), messages[s.Number()]) {
 					t.Errorf("%s: message %d, %d bytes in use", form.name, s.Number(), used)
 				}
 			}
@@ -274,7 +305,7 @@ func TestInside(t *testing.T) {
 	for _, form := range forms {
 		encoded := form.encode(sample("shared.bin"))
 		r := &insider{r: bytes.NewReader(join(encoded, encoded))}
-		r.scanner = form.scanner(r, capvet.Limits{})
+		r.scanner = form.scanner(r, nil)
 		for r.scanner.Scan() {
 		}
 		if r.scanner.Number() != 2 || r.scanner.Err() != nil {
@@ -294,17 +325,17 @@ func TestInside(t *testing.T) {
 // However the bytes of a stream come, and whatever the reader returns with the last of them, the messages are the same.
 func TestScannersOverReaders(t *testing.T) {
 	stream := join(sample("stream-of-four.bin"), cycle, sample("shared.bin"), nullPad, many(512), null)
-	want, err := scan(capvet.NewScanner(bytes.NewReader(stream), capvet.Limits{}))
+	want, err := scan(capvet.NewScanner(bytes.NewReader(stream), nil))
 	if err != nil || strings.Count(want, "accepted") != 6 || strings.Count(want, "refused") != 3 {
 		t.Fatal(want, err)
 	}
-	packed := capvet.AppendPacked(nil, stream)
+	packed := packedWords(stream)
 	for i, form := range []func(io.Reader) io.Reader{iotest.OneByteReader, iotest.HalfReader, iotest.DataErrReader} {
-		lines, err := scan(capvet.NewScanner(form(bytes.NewReader(stream)), capvet.Limits{}))
+		lines, err := scan(capvet.NewScanner(form(bytes.NewReader(stream)), nil))
 		if lines != want || err != nil {
 			t.Error(i, lines, err)
 		}
-		lines, err = scan(capvet.NewPackedScanner(form(bytes.NewReader(packed)), capvet.Limits{}))
+		lines, err = scan(capvet.NewPackedScanner(form(bytes.NewReader(packed)), nil))
 		if lines != want || err != nil {
 			t.Error(i, lines, err)
 		}
@@ -320,35 +351,32 @@ func TestScannersEnd(t *testing.T) {
 		count int
 		want  error
 	}{
-		{"nothing", capvet.NewScanner(strings.NewReader(""), capvet.Limits{}), 0, nil},
-		{"nothing, packed", capvet.NewPackedScanner(strings.NewReader(""), capvet.Limits{}), 0, nil},
-		{"an error", capvet.NewScanner(iotest.ErrReader(broken), capvet.Limits{}), 0, broken},
-		{"an error, packed", capvet.NewPackedScanner(iotest.ErrReader(broken), capvet.Limits{}), 0, broken},
+		{"nothing", capvet.NewScanner(strings.NewReader(""), nil), 0, nil},
+		{"nothing, packed", capvet.NewPackedScanner(strings.NewReader(""), nil), 0, nil},
+		{"an error", capvet.NewScanner(iotest.ErrReader(broken), nil), 0, broken},
+		{"an error, packed", capvet.NewPackedScanner(iotest.ErrReader(broken), nil), 0, broken},
 		{"an error after a message", capvet.NewScanner(io.MultiReader(bytes.NewReader(contacts), iotest.ErrReader(broken)),
-			capvet.Limits{}), 1, broken},
+			nil), 1, broken},
 		{"an error in a message", capvet.NewScanner(io.MultiReader(bytes.NewReader(contacts[:99]), iotest.ErrReader(broken)),
-			capvet.Limits{}), 0, broken},
+			nil), 0, broken},
 		{"an error after a packed message", capvet.NewPackedScanner(io.MultiReader(bytes.NewReader(packed), iotest.ErrReader(broken)),
-			capvet.Limits{}), 1, broken},
-		{"no bytes and no error", capvet.NewScanner(empty{}, capvet.Limits{}), 0, io.ErrNoProgress},
-		{"a part of a packed message", capvet.NewPackedScanner(bytes.NewReader(packed[:99]), capvet.Limits{}), 0,
-			&capvet.FrameError{Reason: capvet.Truncated}},
-		{"a large packed message", capvet.NewPackedScanner(bytes.NewReader(packed), capvet.Limits{MessageWords: 391}), 0,
-			&capvet.FrameError{Reason: capvet.TooLarge, Detail: 392}},
-		{"513 segments", capvet.NewPackedScanner(bytes.NewReader(capvet.AppendPacked(nil, many(513))), capvet.Limits{}), 0,
-			&capvet.FrameError{Reason: capvet.TooManySegments, Detail: 513}},
-		{"no table", capvet.NewScanner(bytes.NewReader(null), capvet.Limits{NoTable: true}), 0,
-			&capvet.LimitsError{Limits: capvet.Limits{NoTable: true}}},
-		{"no table, packed", capvet.NewPackedScanner(bytes.NewReader(null), capvet.Limits{NoTable: true}), 0,
-			&capvet.LimitsError{Limits: capvet.Limits{NoTable: true}}},
-		{"trailing", capvet.NewScanner(bytes.NewReader(join(null, null)), capvet.Limits{AllowTrailing: true}), 2, nil},
-		{"a depth above 256", capvet.NewScanner(bytes.NewReader(null), capvet.Limits{Depth: 257}), 0,
-			&capvet.LimitsError{Limits: capvet.Limits{Depth: 257}}},
+			nil), 1, broken},
+		{"no bytes and no error", capvet.NewScanner(empty{}, nil), 0, io.ErrNoProgress},
+		{"a part of a packed message", capvet.NewPackedScanner(bytes.NewReader(packed[:99]), nil), 0,
+			&capvet.FrameError{Reason: capvet.ReasonTruncated}},
+		{"a large packed message", capvet.NewPackedScanner(bytes.NewReader(packed), with(capvet.Limits{MessageWords: 391})), 0,
+			&capvet.FrameError{Reason: capvet.ReasonTooLarge, Words: 392}},
+		{"513 segments", capvet.NewPackedScanner(bytes.NewReader(packedWords(many(513))), nil), 0,
+			&capvet.FrameError{Reason: capvet.ReasonTooManySegments, Segments: 513}},
+		{"a depth above 256", capvet.NewScanner(bytes.NewReader(null), with(capvet.Limits{Depth: 257})), 0,
+			&capvet.LimitsError{Limits: *with(capvet.Limits{Depth: 257})}},
+		{"a depth above 256, packed", capvet.NewPackedScanner(bytes.NewReader(packed), with(capvet.Limits{Depth: 257})), 0,
+			&capvet.LimitsError{Limits: *with(capvet.Limits{Depth: 257})}},
 	} {
 		for row.s.Scan() {
 		}
 		same(t, row.what, row.want, row.s.Err())
-		if row.s.Scan() || row.s.Number() != row.count || row.s.Bytes() != nil || row.s.Raw() != nil {
+		if row.s.Scan() || row.s.Number() != row.count || row.s.Message().Bytes() != nil {
 			t.Errorf("%s: %d messages", row.what, row.s.Number())
 		}
 	}
@@ -360,11 +388,30 @@ type empty struct{}
 func (empty) Read([]byte) (int, error) { return 0, nil }
 
 func TestExclusiveScanner(t *testing.T) {
-	s := capvet.NewScanner(bytes.NewReader(join(sample("shared.bin"), null)), capvet.Limits{})
-	s.Exclusive()
+	s := capvet.NewScanner(bytes.NewReader(join(sample("shared.bin"), null)), exclusive(nil))
 	lines, err := scan(s)
 	if lines != "refused Overlap at 0:2 pointers 3\naccepted charge 0 depth 0 pointers 1 caps 0\n" || err != nil {
 		t.Error(lines, err)
+	}
+}
+
+// A Scanner over small messages allocates nothing for each of them.
+func TestScannersAllocateNothing(t *testing.T) {
+	const count = 1000
+	for _, form := range forms {
+		stream := bytes.Repeat(form.encode(sample("shared.bin")), count)
+		allocated := testing.AllocsPerRun(5, func() {
+			s := form.scanner(bytes.NewReader(stream), nil)
+			for s.Scan() {
+			}
+			if s.Number() != count || s.Err() != nil {
+				t.Error(s.Number(), s.Err())
+			}
+		})
+		// (the Scanner, its reader and its buffers)
+		if allocated > 10 {
+			t.Errorf("%s: %v allocations for %d messages", form.name, allocated, count)
+		}
 	}
 }
 
@@ -386,9 +433,9 @@ func TestScannersOverASocket(t *testing.T) {
 			t.Fatal(err)
 		}
 		defer peer.Close()
-		s := form.scanner(peer, capvet.Limits{})
-		for s.Scan() {
-			if !bytes.Equal(s.Raw(), messages[s.Number()]) {
+		s := form.scanner(peer, nil)
+		for b, _, ok := next(s); ok; b, _, ok = next(s) {
+			if !bytes.Equal(b, messages[s.Number()]) {
 				t.Fatal(s.Number())
 			}
 			peer.Write([]byte{byte(s.Number())})
@@ -409,7 +456,7 @@ func send(address string, messages [][]byte, encode func([]byte) []byte) error {
 		return err
 	}
 	defer conn.Close()
-	conn.SetDeadline(time.Now().Add(20 * time.Second))
+	conn.SetDeadline(time.Now().Add(patience))
 	reply := make([]byte, 1)
 	for number, message := range messages {
 		if _, err := conn.Write(encode(message)); err != nil {
@@ -445,17 +492,17 @@ func TestAMessageAndAPart(t *testing.T) {
 		encoded := form.encode(next)
 		for cut := 0; cut < len(encoded); cut += 1 + len(encoded)/50 {
 			here, there := pair(t)
-			s := form.scanner(here, capvet.Limits{})
+			s := form.scanner(here, nil)
 			if _, err := there.Write(join(form.encode(first), encoded[:cut])); err != nil {
 				t.Fatal(err)
 			}
-			here.SetReadDeadline(time.Now().Add(10 * time.Second))
-			if !s.Scan() || !bytes.Equal(s.Bytes(), first) {
+			here.SetReadDeadline(time.Now().Add(patience))
+			if !s.Scan() || !bytes.Equal(s.Message().Bytes(), first) {
 				t.Fatalf("%s: the message before %d bytes of the next one: %v", form.name, cut, s.Err())
 			}
 			there.Write(encoded[cut:])
 			there.Close()
-			if !s.Scan() || !bytes.Equal(s.Bytes(), next) || s.Scan() || s.Err() != nil {
+			if !s.Scan() || !bytes.Equal(s.Message().Bytes(), next) || s.Scan() || s.Err() != nil {
 				t.Fatal(s.Err())
 			}
 			here.Close()
