@@ -2,7 +2,7 @@
 
 from __future__ import annotations
 
-from typing import TYPE_CHECKING, Any, Optional, Protocol
+from typing import TYPE_CHECKING, Any, Awaitable, Optional, Protocol
 
 from ._capvet import ffi
 
@@ -22,6 +22,13 @@ class Readable(Protocol):
         """At most `size` bytes, and none at the end. None if the file is not blocking and has no bytes now."""
 
 
+class AsyncReadable(Protocol):
+    """What async_read_messages() reads: an asyncio.StreamReader, or any other object with a coroutine `read`."""
+
+    def read(self, size: int, /) -> Awaitable[bytes]:
+        """At most `size` bytes as soon as some have come, and none at the end."""
+
+
 uncleared = ffi.new_allocator(should_clear_after_alloc=False)
 """Memory whose bytes are not set: for outputs that the library fills in."""
 
@@ -29,6 +36,8 @@ uncleared = ffi.new_allocator(should_clear_after_alloc=False)
 def read_only(data: Buffer) -> memoryview:
     """The bytes of a buffer. They are copied only if Python could write them during a call, or if they have gaps."""
     view = memoryview(data)
+    if type(data) is bytes and data:
+        return view
     if view.readonly and view.c_contiguous and view.nbytes:
         return view if view.format == "B" and view.ndim == 1 else view.cast("B")
     return memoryview(view.tobytes())

@@ -2,18 +2,28 @@
 
 from __future__ import annotations
 
-from typing import Any, Literal, Optional
+from typing import Any, Dict, Literal, Optional, Tuple
 
 from ._capvet import ffi, lib
-from .buffers import Buffer, pointer_to, read_only
-from .reports import DEFAULT, Limits, Position, Report, limits_of
+from .buffers import pointer_to, uncleared
+from .paths import path_of
+from .reports import OVERLAP, Position, Report, Rules
+
+FrameReason = Literal["NoMessage", "TooManySegments", "TooLarge", "Truncated", "Trailing", "BadSegment"]
+"""Why the data hold no frame, or more than one."""
+RefusalReason = Literal[
+    "Overlap", "NullPad", "EmptySegment", "CapabilityPad", "ManySegments", "NoRoot", "Reserved", "SegmentMissing", "PadOutside",
+    "PadIsFar", "PadNotFar", "TagKind", "TagOffset", "OutOfSegment", "CompositeTag", "CompositeOverrun", "DepthLimit", "WordLimit"]
+"""Why a message is refused."""
+
+_WITHOUT_POINTER = (lib.CAPVET_NO_ROOT, lib.CAPVET_MANY_SEGMENTS)
 
 
 class CapvetError(ValueError):
     """Base class: the data are not what was asked for.
 
     A wrong argument raises ValueError or TypeError itself, which `except CapvetError` does not catch. Instances can be
-    pickled, so they cross process boundaries.
+    pickled, so they cross process boundaries. Two are equal if all that they say is: of refusals also the bytes and the limits.
     """
 
     answer: int = 0
@@ -25,94 +35,154 @@ class CapvetError(ValueError):
         super().__init__(text)
         self.__dict__.update(fields)
 
+    def __eq__(self, other: object) -> bool:
+        return self is other or type(self) is type(other) and str(self) == str(other) and vars(self) == vars(other)
+
+    def __hash__(self) -> int:
+        return hash((type(self), str(self)))
+
 
 class FrameError(CapvetError):
-    """The data hold no complete frame within the limits, or more than the frame.
+    """The data hold no complete frame within the limits, or more than the frame. The fields that do not apply are None."""
 
-    Reasons: NoMessage, TooManySegments, TooLarge, Truncated, Trailing, and BadSegment from vet_segments().
-    """
-
-    required: int = 0
-    """NoMessage, Truncated: the least length of the data that gets further. Otherwise 0."""
-    detail: int = 0
-    """TooManySegments: how many. TooLarge: how many words. Trailing: how many bytes. BadSegment: which. Otherwise 0."""
-    length: int = 0
-    """Trailing: bytes of the frame. Otherwise 0."""
+    reason: FrameReason
+    required: Optional[int] = None
+    """NoMessage, Truncated: the least length of the data that gets further."""
+    segments: Optional[int] = None
+    """TooManySegments: how many segments the table claims."""
+    words: Optional[int] = None
+    """TooLarge: how many words the table claims."""
+    trailing: Optional[int] = None
+    """Trailing: how many bytes follow the message."""
+    length: Optional[int] = None
+    """Trailing: bytes of the message."""
+    segment: Optional[int] = None
+    """BadSegment: which segment has a length that is no multiple of 8."""
+    number: int = 0
+    """The number of the message in its buffer or stream, from 0."""
     offset: int = 0
-    """From messages() and read_messages(): where in the stream the message starts. Otherwise 0."""
+    """Where the message starts in its buffer or stream, in bytes."""
 
 
 class Refusal(CapvetError):
-    """The message is refused because of one pointer.
+    """A message that is refused: why, where, and its bytes.
 
-    Reasons: NoRoot to WordLimit of capvet.h; NullPad, EmptySegment, CapabilityPad and ManySegments (not strict); Overlap
-    (from vet_exclusive). ManySegments and NoRoot are about no pointer: `segment`, `word` and `pointers` are 0.
+    vet() raises it. Streams yield it in place of a Message and go on; `raise` it yourself to end there.
     """
 
-    segment: int = 0
-    """The segment of the pointer, from 0."""
-    word: int = 0
-    """The word of the pointer in its segment, from 0."""
-    pointers: int = 0
-    """How many pointers were checked, the refused one included."""
+    reason: RefusalReason
+    position: Optional[Position] = None
+    """The place of the first pointer that is wrong or exceeds a limit. None if the refusal is about no pointer: NoRoot and
+    ManySegments."""
+    pointer: Optional[int] = None
+    """The number of that pointer in preorder, from 1. None if the refusal is about no pointer, or from peek()."""
     length: int = 0
-    """Bytes of the frame: the next message of a stream starts after them."""
-
-    def __bool__(self) -> Literal[True]:
-        """Always true, so that `if message.refusal:` narrows a message to `Refused` for type checkers."""
-        return True
+    """Bytes of the message: the next one of a buffer starts after them."""
+    number: int = 0
+    """The number of the message in its buffer or stream, from 0."""
+    offset: int = 0
+    """Where the message starts in its buffer or stream, in bytes as they came (packed bytes if the stream is packed)."""
+    unvetted: memoryview
+    """The bytes of the refused message, unpacked, for a log. Do not read them as a message."""
+    _rules: Rules
 
     @property
-    def position(self) -> Position:
-        """The place of the pointer."""
-        return Position(self.segment, self.word)
+    def path(self) -> Optional[str]:
+        """The path to the pointer, such as "/p0/i7/p2": which field is refused. "/" is the root.
 
-    def path(self, data: Buffer, *, limits: Limits = DEFAULT) -> Optional[str]:
-        """The path to the pointer in the message that `data` are, such as "/p0/i7/p2": which field is refused.
-
-        It is a path as node() takes it, and "/" for the root. It is found by one more walk up to the pointer. It is None if
-        the refusal is about no pointer, and may be None or another path if the data or the limits are not those of the
-        refusal.
+        It is found by one more walk up to the pointer. None if `pointer` is None.
         """
-        return path_of(data, limits, self.pointers)
+        return None if self.pointer is None else path_of(self.unvetted, self._rules, self.pointer)
 
-    def earlier_path(self, data: Buffer, *, limits: Limits = DEFAULT) -> Optional[str]:
+    @property
+    def earlier_path(self) -> Optional[str]:
         """The path to the first pointer that uses a word which this one uses too: the other pointer of an overlap.
 
-        It is found by three more walks up to the pointer. It is None if no pointer before this one uses such a word, or if
-        path() is None.
+        It is found by three more walks up to the pointer. None if no pointer before this one uses such a word.
         """
-        view, report = read_only(data), ffi.new("capvet_report *")
-        if lib.capvet_earlier_pointer(pointer_to(view), len(view), limits_of(limits), self.pointers, report) != lib.CAPVET_OK:
+        earlier = self._earlier()
+        return None if earlier is None else path_of(self.unvetted, self._rules, earlier.pointers)
+
+    def explain(self) -> str:
+        """Why the message is refused, as lines for a log.
+
+        They are the lines that the program `capvet explain` writes after the line of the verdict, without the byte in its
+        input: the path to the pointer, its place in bytes, the pointer word with its fields, where it leads, what is
+        exceeded, and the reason as a sentence. Each begins with two blanks and ends with a line feed. Of an overlap the last
+        line has the path to the earlier pointer and its place, if there is one. Vets the message again. Raises ValueError
+        for a refusal of peek(), which is about one path.
+        """
+        if self.position is not None and self.pointer is None:
+            raise ValueError("a refusal of peek() is about one path: vet() finds the first pointer, and explains it")
+        if self.answer == OVERLAP:
+            return self._overlap()
+        view, report, required = self.unvetted, ffi.new("capvet_report *"), ffi.new("size_t *")
+        text = uncleared("char[]", lib.CAPVET_EXPLANATION_BOUND)
+        answer = lib.capvet_explain(pointer_to(view), len(view), self._rules.raw, text, len(text), required, report)
+        if answer != self.answer:
+            raise RuntimeError("the bytes have changed after they were refused")
+        return str(ffi.buffer(text, required[0]), "ascii")
+
+    def _overlap(self) -> str:
+        """The lines of an overlap."""
+        assert self.position is not None and self.pointer is not None
+        view, report, required = self.unvetted, ffi.new("capvet_report *"), ffi.new("size_t *")
+        text = uncleared("char[]", lib.CAPVET_OVERLAP_BOUND)
+        answer = lib.capvet_explain_overlap(pointer_to(view), len(view), self._rules.raw, self.position.segment, self.position.word,
+                                            self.pointer, text, len(text), required, report)
+        if answer != lib.CAPVET_OK:
+            raise RuntimeError("the bytes have changed after they were refused")
+        return str(ffi.buffer(text, required[0]), "ascii")
+
+    def _earlier(self) -> Any:
+        """What the library reports of the earlier pointer."""
+        view, report = self.unvetted, ffi.new("capvet_report *")
+        if self.pointer is None or lib.capvet_earlier_pointer(pointer_to(view), len(view), self._rules.raw, self.pointer,
+                                                              report) != lib.CAPVET_OK:
             return None
-        return path_of(view, limits, report.pointers)
+        return report
+
+    def __reduce__(self) -> Tuple[Any, ...]:
+        return _refusal_again, (str(self), {**vars(self), "unvetted": bytes(self.unvetted)})
+
+
+def _refusal_again(text: str, fields: Dict[str, Any]) -> Refusal:
+    """A refusal that was pickled."""
+    return Refusal(text, **{**fields, "unvetted": memoryview(fields["unvetted"])})
 
 
 class CapabilityError(CapvetError):
-    """The message is accepted, but has a capability and so no canonical form."""
+    """The message has a capability, and so no canonical form."""
 
+    reason: Literal["HasCapability"]
     report: Report
 
 
 class UnpackError(CapvetError):
     """The packed data end inside a group (Truncated), or give more than max_size bytes (TooLarge)."""
 
+    reason: Literal["Truncated", "TooLarge"]
+
 
 class PathError(CapvetError):
     """The text is not a path, or one of its numbers is too great."""
 
+    reason: Literal["BadPath"]
+    path: str = ""
+    """The text."""
     position: int = 0
     """Where it stops being a path, counted in bytes from 0."""
 
 
-_FRAME_TEXTS = {
-    lib.CAPVET_NO_MESSAGE: "no message: the data are empty",
-    lib.CAPVET_TOO_MANY_SEGMENTS: "TooManySegments {0.detail}",
-    lib.CAPVET_TOO_LARGE: "TooLarge: {0.detail} words",
-    lib.CAPVET_TRUNCATED: "Truncated: at least {0.input_required} bytes are required",
-    lib.CAPVET_TRAILING: "Trailing: {0.detail} bytes follow the message",
-    lib.CAPVET_BAD_SEGMENT: "BadSegment: the length of segment {0.detail} is no multiple of 8",
+_FRAMES = {
+    lib.CAPVET_NO_MESSAGE: (("required", "input_required"), "no message: the data are empty"),
+    lib.CAPVET_TOO_MANY_SEGMENTS: (("segments", "detail"), "TooManySegments {0.detail}"),
+    lib.CAPVET_TOO_LARGE: (("words", "detail"), "TooLarge: {0.detail} words"),
+    lib.CAPVET_TRUNCATED: (("required", "input_required"), "Truncated: at least {0.input_required} bytes are required"),
+    lib.CAPVET_TRAILING: (("trailing", "detail"), "Trailing: {0.detail} bytes follow the message"),
+    lib.CAPVET_BAD_SEGMENT: (("segment", "detail"), "BadSegment: the length of segment {0.detail} is no multiple of 8"),
 }
+"""The field of FrameError, the field of the report that it has, and the text."""
 
 
 def name_of(answer: int) -> str:
@@ -120,29 +190,23 @@ def name_of(answer: int) -> str:
     return str(ffi.string(lib.capvet_answer_name(answer)), "ascii")
 
 
-def path_of(data: Buffer, limits: Limits, number: int) -> Optional[str]:
-    """The path to the pointer of this number in preorder."""
-    view, report, required = read_only(data), ffi.new("capvet_report *"), ffi.new("size_t *")
-    steps = ffi.new("capvet_step[]", lib.CAPVET_MAX_DEPTH)
-    answer = lib.capvet_pointer_path(pointer_to(view), len(view), limits_of(limits), number, steps, len(steps), required, report)
-    if answer != lib.CAPVET_OK:
-        return None
-    return "/" + "/".join(f"{'pi'[step.kind]}{step.number}" for step in steps[0:required[0]])
+def is_about_frame(answer: int) -> bool:
+    """Whether an answer is about the frame, and not about a pointer."""
+    return answer in _FRAMES
 
 
-def frame_error(answer: int, report: Any) -> FrameError:
-    return FrameError(_FRAME_TEXTS[answer].format(report), answer=answer, reason=name_of(answer), required=report.input_required,
-                      detail=report.detail, length=report.length)
+def frame_error(answer: int, report: Any, number: int = 0, offset: int = 0) -> FrameError:
+    """The exception for an answer about the frame."""
+    (field, source), text = _FRAMES[answer]
+    more = {"length": report.length} if answer == lib.CAPVET_TRAILING else {}
+    return FrameError(text.format(report), answer=answer, reason=name_of(answer), number=number, offset=offset,
+                      **{field: getattr(report, source)}, **more)
 
 
-def refusal(answer: int, report: Any) -> Refusal:
-    text = f"refused {name_of(answer)} at {report.segment}:{report.word} pointers {report.pointers}"
-    return Refusal(text, answer=answer, reason=name_of(answer), segment=report.segment, word=report.word,
-                   pointers=report.pointers, length=report.length)
-
-
-def error_of(answer: int, report: Any) -> ValueError:
-    """The exception for an answer of a call that vets or reads a frame."""
-    if answer == lib.CAPVET_BAD_LIMITS:
-        return ValueError("these limits do not go with this call: it takes no words without a table")
-    return (frame_error if answer in _FRAME_TEXTS else refusal)(answer, report)
+def refusal(answer: int, place: Position, pointers: int, unvetted: memoryview, rules: Rules, number: int = 0,
+            offset: int = 0) -> Refusal:
+    """The exception for an answer about a pointer."""
+    has_pointer = answer not in _WITHOUT_POINTER
+    return Refusal(f"refused {name_of(answer)} at {place} pointers {pointers}", answer=answer, reason=name_of(answer),
+                   position=place if has_pointer else None, pointer=pointers if has_pointer else None, length=len(unvetted),
+                   number=number, offset=offset, unvetted=unvetted, _rules=rules)

@@ -1,38 +1,22 @@
 """Finds the messages in bytes of a stream as they come, plain and packed, and vets each.
 
-Both classes keep what has come of the next message. `add` takes more bytes. `find` vets the next message once it is whole.
-Then `take` returns its frame, or `skip` goes on without it.
+Both classes keep what has come of the next messages. `add` takes more bytes. `find` vets the next messages that are whole. Then
+`take` returns them, or `drop` goes on without them.
 """
 
 from __future__ import annotations
 
-from typing import Any, Optional, Union
+from typing import List, Union
 
 from ._capvet import ffi, lib
 from .buffers import Buffer, pointer_to
-from .calls import exclusive_answer
 from .errors import FrameError, frame_error
-from .reports import Limits, limits_of
+from .message import Verdict, Vetter, verdict_of
+from .reports import Limits, Record
 
 PIECE = 65536
 _ZEROS = memoryview(bytes(1 << 20))
 _MORE = (lib.CAPVET_NO_MESSAGE, lib.CAPVET_TRUNCATED)
-
-
-class Vetter:
-    """Vets the message that bytes start with."""
-
-    def __init__(self, exclusive: bool, limits: Limits) -> None:
-        self.limits, self.exclusive = limits_of(limits, allow_trailing=True), exclusive
-        if limits.no_table:
-            raise ValueError("a stream has messages with tables: no_table does not go with it")
-
-    def answer(self, start: Any, length: int, report: Any) -> int:
-        """What the library answers, and reports in `report`. Its `length` is 0 if there is no whole frame."""
-        if self.exclusive:
-            return exclusive_answer(start, length, self.limits, report)
-        answer: int = lib.capvet_vet(start, length, self.limits, report)
-        return answer
 
 
 class _Frames:
@@ -48,16 +32,11 @@ class _Frames:
         """The byte of the stream at which the next message starts."""
         self.received = 0
         """How many bytes have come."""
-        self.report = ffi.new("capvet_report *")
-        """What the library reports of the message that was found."""
-        self._vetter, self._answer = vetter, -1
+        self.is_at_fault = False
+        """Whether the stream has stopped being one, at the next message."""
+        self._vetter, self._report, self._answer = vetter, vetter.report, lib.CAPVET_TRUNCATED
         self._data, self._at = bytearray(), 0
         self._required = 0
-
-    @property
-    def is_at_fault(self) -> bool:
-        """Whether the stream has stopped being one. `find` has returned why, and returns it again."""
-        return self._answer > 0 and not self.report.length
 
     @property
     def missing(self) -> int:
@@ -73,11 +52,13 @@ class _Frames:
             self._data += view if view.c_contiguous else view.tobytes()
         self.received += view.nbytes
 
+    def _break(self, answer: int) -> None:
+        """Goes no further than the frame that has this answer."""
+        self._answer, self.is_at_fault = answer, True
+
     def fault(self) -> FrameError:
         """Why the stream has stopped being one, or why it may not end here."""
-        error = frame_error(self._answer if self.is_at_fault else lib.CAPVET_TRUNCATED, self.report)
-        error.offset = self.offset
-        return error
+        return frame_error(self._answer, self._report, self.number, self.offset)
 
 
 class PlainFrames(_Frames):
@@ -85,49 +66,56 @@ class PlainFrames(_Frames):
 
     _LEAST = 8
 
-    def find(self) -> Optional[int]:
-        """What the library answers of the next message, or None if it is not whole yet."""
+    def find(self) -> List[Record]:
+        """The records of some next messages that are whole. Empty if the next one is not, or if the stream is at fault."""
         length = len(self._data) - self._at
-        if self._answer < 0 and length and length >= self._required:
-            with memoryview(self._data) as view:
-                answer = self._vetter.answer(pointer_to(view) + self._at, length, self.report)
-            if answer not in _MORE:
-                self._answer = answer
-            self._required = self.report.input_required
-        return None if self._answer < 0 else self._answer
+        if self.is_at_fault or not length or length < self._required:
+            return []
+        with memoryview(self._data) as view:
+            records = self._vetter.records(view, self._at, self.offset)
+        answer, self._required = self._vetter.answer, 0
+        if not records and answer in _MORE:
+            self._required = self._report.input_required
+        elif not records:
+            self._break(answer)
+        return records
 
     @property
     def is_cut(self) -> bool:
         """Whether the stream may not end here. All messages before have been found."""
-        return self._answer < 0 and len(self._data) > self._at
+        return not self.is_at_fault and len(self._data) > self._at
 
-    def skip(self) -> None:
-        """Goes on after the message that was found."""
-        self._at += self.report.length
-        self._gone_on(self.report.length)
-
-    def _gone_on(self, length: int) -> None:
+    def drop(self, records: List[Record]) -> None:
+        """Goes on after messages that were found."""
+        length = sum(record[1] for record in records)
+        self._at += length
         self.offset += length
-        self.number += 1
-        self._required, self._answer = 0, -1
+        self.number += len(records)
 
-    def take(self) -> memoryview:
-        """The frame of the message that was found, which has bytes of its own. Goes on after it."""
-        length: int = self.report.length
-        end = self._at + length
-        if len(self._data) - end < length:
-            # (the rest is shorter than the message, so the rest is copied)
-            frame, self._data = self._data, self._data[end:]
-            del frame[end:]
-            del frame[:self._at]
-            self._at = 0
-            raw = memoryview(frame).toreadonly()
+    def take(self, records: List[Record]) -> List[Verdict]:
+        """The messages that were found. Each has bytes of its own. Goes on after them."""
+        if len(records) == 1 and len(self._data) - self._at < 2 * records[0][1]:
+            taken = [verdict_of(self._split(records[0][1]), self.number, records[0], self._vetter.rules)]
         else:
+            # (a slice of bytes takes half the time of a copy of a view)
             with memoryview(self._data) as view:
-                raw = memoryview(bytes(view[self._at:end]))
-            self._at = end
-        self._gone_on(length)
-        return raw
+                data = bytes(view[self._at:self._at + sum(record[1] for record in records)])
+            rules, at, taken = self._vetter.rules, 0, []
+            for number, record in enumerate(records, self.number):
+                end = at + record[1]
+                taken.append(verdict_of(memoryview(data[at:end]), number, record, rules))
+                at = end
+        self.drop(records)
+        return taken
+
+    def _split(self, length: int) -> memoryview:
+        """The next bytes of the buffer, in place. The rest, which is shorter, is copied to another one."""
+        end = self._at + length
+        frame, self._data = self._data, self._data[end:]
+        del frame[end:]
+        del frame[:self._at]
+        self._at = -length
+        return memoryview(frame).toreadonly()
 
 
 class PackedFrames(_Frames):
@@ -135,71 +123,73 @@ class PackedFrames(_Frames):
 
     def __init__(self, vetter: Vetter) -> None:
         super().__init__(vetter)
+        self._report = ffi.new("capvet_report *")
         self._state, self._out = ffi.new("capvet_unpacking *"), bytearray(4096)
         self._consumed, self._size = ffi.new("size_t *"), ffi.new("size_t *")
         self._is_inside, self._gone = False, 0
+        self._found: List[Record] = []
 
-    def find(self) -> Optional[int]:
-        """What the library answers of the next message, or None if it is not whole yet."""
-        while self._answer < 0 and len(self._data) - self._at >= self._required:
+    def find(self) -> List[Record]:
+        """The record of the next message, if it is whole. Empty if it is not, or if the stream is at fault."""
+        while not self._found and not self.is_at_fault and len(self._data) - self._at >= self._required:
             answer = self._unpacked()
             if answer == lib.CAPVET_BUFFER_TOO_SMALL:
                 self._grow(self._size[0])
             elif answer in _MORE:
                 # (10 bytes at most)
-                self._required = max(self.report.input_required, 1) if answer == lib.CAPVET_TRUNCATED else 1
+                self._required = max(self._report.input_required, 1) if answer == lib.CAPVET_TRUNCATED else 1
                 self._is_inside = answer == lib.CAPVET_TRUNCATED
-                return None
+                break
             elif answer == lib.CAPVET_OK:
                 with memoryview(self._out) as out:
-                    self._answer = self._vetter.answer(pointer_to(out), self._size[0], self.report)
+                    self._found = self._vetter.records(out[:self._size[0]], 0, self.offset)
             else:
-                self._answer = answer
-        return None if self._answer < 0 else self._answer
+                self._break(answer)
+        return self._found
 
     def _unpacked(self) -> int:
         """Unpacks what has come of the next message."""
         with memoryview(self._data) as data, memoryview(self._out) as out:
-            answer: int = lib.capvet_unpack_message(pointer_to(data) + self._at, len(data) - self._at, self._vetter.limits,
+            answer: int = lib.capvet_unpack_message(pointer_to(data) + self._at, len(data) - self._at, self._vetter.rules.raw,
                                                     pointer_to(out), len(out), self._state, self._consumed, self._size,
-                                                    self.report)
+                                                    self._report)
         self._at += self._consumed[0]
         self._gone += self._consumed[0]
         return answer
 
     def _grow(self, size: int) -> None:
-        # (twice as large at most, so that a table that claims much makes no large buffer)
-        size = min(size, max(2 * len(self._out), PIECE))
         while len(self._out) < size:
             self._out += _ZEROS[:size - len(self._out)]
 
     @property
     def is_cut(self) -> bool:
         """Whether the stream may not end here. All messages before have been found."""
-        return self._answer < 0 and self._is_inside
+        return not self.is_at_fault and not self._found and self._is_inside
 
-    def skip(self) -> None:
+    def drop(self, records: List[Record]) -> None:
         """Goes on after the message that was found."""
         self.offset = self._gone
-        self.number += 1
-        self._required, self._answer, self._is_inside = 0, -1, False
+        self.number += len(records)
+        self._required, self._is_inside, self._found = 0, False, []
 
-    def take(self) -> memoryview:
-        """The frame of the message that was found, which has bytes of its own. Goes on after it."""
-        length: int = self.report.length
+    def take(self, records: List[Record]) -> List[Verdict]:
+        """The message that was found, which has bytes of its own. Goes on after it."""
+        record, = records
+        length = record[1]
         if 2 * length > len(self._out):
-            raw, self._out = memoryview(self._out).toreadonly()[:length], bytearray(4096)
+            frame, self._out = memoryview(self._out).toreadonly()[:length], bytearray(4096)
         else:
             with memoryview(self._out) as out:
-                raw = memoryview(bytes(out[:length]))
-        self.skip()
-        return raw
+                frame = memoryview(bytes(out[:length]))
+        taken = [verdict_of(frame, self.number, record, self._vetter.rules)]
+        self.drop(records)
+        return taken
 
 
 Frames = Union[PlainFrames, PackedFrames]
 
 
-def frames_of(packed: bool, exclusive: bool, limits: Limits) -> Frames:
+def frames_of(packed: bool, limits: Limits) -> Frames:
     """The messages of a stream of this kind."""
-    vetter = Vetter(exclusive, limits)
+    vetter = Vetter(limits)
     return PackedFrames(vetter) if packed else PlainFrames(vetter)

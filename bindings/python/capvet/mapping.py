@@ -5,10 +5,8 @@ from __future__ import annotations
 import base64
 import json
 from pathlib import Path
-from typing import Union
-
+from .message import Message, Verdict
 from .reports import Limits
-from .streams import Accepted, Refused
 
 PAGE = Path(__file__).parent / "inspector.html"
 """The page without a message. A wheel that was built without esbuild hasn't got it."""
@@ -16,14 +14,15 @@ PAGE = Path(__file__).parent / "inspector.html"
 _PLACE = "<!--given-->"
 
 
-def write_page(message: Union[Accepted, Refused], limits: Limits, name: str, to: str) -> None:
+def write_page(message: Verdict, limits: Limits, name: str, to: str) -> None:
     """Writes the page with a message inside to a file. The page shows the message under this name and within these limits."""
     if not PAGE.exists():
         raise OSError("this package was built without the page of `map`: install esbuild and binaryen, and build it again")
     shown = {"words": limits.message_words, "charge": limits.charge, "depth": limits.depth,
              "isStrict": not limits.allow_nonstrict, "isUnamplified": not limits.allow_amplified}
     # (no name of a file can end the script, since each < is escaped)
-    inside = {"name": name, "limits": shown, "bytes": base64.b64encode(message.raw).decode("ascii")}
+    data = message.data if isinstance(message, Message) else message.unvetted
+    inside = {"name": name, "limits": shown, "bytes": base64.b64encode(data).decode("ascii")}
     given = json.dumps(inside).replace("<", "\\u003c")
     before, _, after = PAGE.read_text(encoding="utf-8").partition(_PLACE)
     page = f'{before}<script type="application/json" id="given">{given}</script>{after}'

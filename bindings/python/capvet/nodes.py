@@ -3,12 +3,12 @@
 from __future__ import annotations
 
 from dataclasses import dataclass, field
-from typing import Any, Dict, Iterator, Literal, Optional, Tuple
+from typing import Any, Dict, Iterator, Literal, NamedTuple, Optional, Tuple
 
 from ._capvet import ffi, lib
 from .buffers import Buffer, pointer_to, read_only, uncleared
-from .errors import PathError, error_of, name_of
-from .reports import DEFAULT, Limits, limits_of
+from .errors import PathError, frame_error, is_about_frame, name_of, refusal
+from .reports import DEFAULT, LARGEST, Limits, Position, Rules, number_of, rules_of
 
 Kind = Literal["null", "struct", "values", "pointers", "structs", "capability"]
 KINDS: Tuple[Kind, ...] = ("null", "struct", "values", "pointers", "structs", "capability")
@@ -46,7 +46,7 @@ class Node:
     capability: int
     """A capability: its index."""
     offset: int
-    """Where `data` starts in the buffer that was passed."""
+    """Where `data` starts in the bytes of the message."""
     data: memoryview = field(repr=False)
     """The node's own bytes, in place: data words, values, or elements. Use struct.unpack_from() on it."""
 
@@ -72,110 +72,127 @@ def _encoded(path: str) -> bytes:
     return path.encode(errors="surrogatepass")
 
 
-def node(data: Buffer, path: str, *, limits: Limits = DEFAULT) -> Optional[Node]:
-    """Return the node at a path such as "/p0/i1/p2", or None if the path leads to nothing.
+class Source(NamedTuple):
+    """Where nodes are read."""
 
-    "/" is the root. /p steps from a struct to one of its pointers, /i from a list of pointers or structs to an element.
-    A node whose kind is "null" means the field's default. None does only if each node before it on the path is of the kind
-    that the schema has: readers also take lists of other kinds, so check the kind of each list first.
+    view: memoryview
+    """The frame."""
+    rules: Rules
+    is_vetted: bool = False
+    shift: int = 0
+    """The byte of the frame from which offsets are counted."""
 
-    Only the pointers on the path are checked: call vet() first to check the rest. Raises FrameError, Refusal, or
-    PathError; Limits.no_table raises ValueError.
-    """
-    view, report, found = read_only(data), ffi.new("capvet_report *"), ffi.new("capvet_node *")
+
+def get(source: Source, path: str) -> Optional[Node]:
+    """The node at a path."""
+    view, report, found = source.view, ffi.new("capvet_report *"), ffi.new("capvet_node *")
     text = _encoded(path)
-    answer = lib.capvet_get(pointer_to(view), len(view), limits_of(limits), text, len(text), found, report)
+    answer = lib.capvet_get(pointer_to(view), len(view), source.rules.raw, text, len(text), found, report)
     if answer == lib.CAPVET_NO_NODE:
         return None
     if answer == lib.CAPVET_BAD_PATH:
-        raise _path_error(report.detail)
+        raise _path_error(path, report.detail)
     if answer != lib.CAPVET_OK:
-        raise error_of(answer, report)
-    return _node_of(found, view)
+        raise _error_of(answer, report, source)
+    return _node_of(found, source)
 
 
-def _path_error(position: int) -> PathError:
+def peek(data: Buffer, path: str, *, limits: Limits = DEFAULT) -> Optional[Node]:
+    """Return the node at a path of a message that wasn't vetted: what Message.get() returns if it is accepted.
+
+    Only the pointers on the path are checked. Raises FrameError, PathError, or Refusal for a pointer on the path.
+    """
+    return get(Source(read_only(data), rules_of(limits)), path)
+
+
+def _path_error(path: str, position: int) -> PathError:
     answer = lib.CAPVET_BAD_PATH
-    return PathError(f"bad path at {position}", answer=answer, reason=name_of(answer), position=position)
+    text = f"bad path at {position}: {path!r}"
+    return PathError(text, answer=answer, reason=name_of(answer), path=path, position=position)
 
 
-def _node_of(raw: Any, view: memoryview) -> Node:
+def _error_of(answer: int, report: Any, source: Source) -> Exception:
+    """The exception for a pointer on a path that can't be followed, or for the frame."""
+    if source.is_vetted:
+        return RuntimeError("the bytes have changed after they were vetted")
+    if is_about_frame(answer):
+        return frame_error(answer, report)
+    unvetted = source.view[:report.length]
+    error = refusal(answer, Position(report.segment, report.word), report.pointers, unvetted, source.rules)
+    # (only the pointers on the path were counted)
+    error.pointer = None
+    return error
+
+
+def _node_of(raw: Any, source: Source) -> Node:
     """A node of C as a dataclass."""
-    return Node(KINDS[raw.kind], raw.element, raw.count, raw.data_words, raw.pointers, raw.capability, raw.offset,
-                view[raw.offset:raw.offset + raw.length])
+    return Node(KINDS[raw.kind], raw.element, raw.count, raw.data_words, raw.pointers, raw.capability,
+                raw.offset - source.shift, source.view[raw.offset:raw.offset + raw.length])
 
 
-def nodes(data: Buffer, path: str, *, first: int = 0, count: Optional[int] = None,
-          limits: Limits = DEFAULT) -> Iterator[Optional[Node]]:
-    """Iterate over the nodes at a path with one `*`, such as "/p0/i*/p2": here pointer 2 of each element of a list.
+def peek_range(data: Buffer, path: str, *, first: int = 0, count: Optional[int] = None,
+               limits: Limits = DEFAULT) -> Iterator[Optional[Node]]:
+    """Iterate over the nodes at a path with one `*`, of a message that wasn't vetted: see Message.get_range().
 
-    The star is the number of an element or of a pointer. It is replaced by `first`, `first` + 1, and so on, to the end of
-    the list or of the struct's pointers, but at most `count` times. Each result is that of node() for its path. So it is
-    None where the path leads to nothing, for example below a null element, and enumerate() and zip() keep the numbers.
-    Nothing is yielded if there is no such list or struct. Neither means a default before you have checked the kind of the
-    list: see node().
-
-    PathError, and ValueError for Limits.no_table, `first` or `count`, are raised by this call. FrameError is raised by the
-    first step of the iteration. Refusal is raised after all nodes before that of the refused path. To go on after it, call
-    nodes() again with the next number as `first`.
+    Only the pointers on the paths are checked. PathError, and ValueError for `first` or `count`, are raised by this call.
+    FrameError is raised by the first step of the iteration. Refusal is raised after all nodes before that of the refused
+    path. To go on after it, call peek_range() again with the next number as `first`.
 
     Reads up to 256 nodes in one call of the library. `data` that Python can write are copied once, by this call.
     """
-    steps, varying = _steps(path, limits)
-    for name, number in (("first", first), ("count", _NUMBERS if count is None else count)):
-        if not isinstance(number, int) or isinstance(number, bool):
-            raise TypeError(f"{name} has to be an int")
-        if number < 0:
-            raise ValueError(f"{name} has to be at least 0, and is {number}")
-    end = _NUMBERS if count is None else min(first + count, _NUMBERS)
-    return _nodes(read_only(data), path, steps, varying, first, end, limits)
+    return get_range(Source(read_only(data), rules_of(limits)), path, first, count)
 
 
-def _steps(path: str, limits: Limits) -> Tuple[Any, int]:
+def get_range(source: Source, path: str, first: int, count: Optional[int]) -> Iterator[Optional[Node]]:
+    """The nodes at a path with a star."""
+    steps, varying = _steps(path)
+    begin = number_of("first", first, None)
+    end = _NUMBERS if count is None else min(begin + number_of("count", count, None), _NUMBERS)
+    return _nodes(source, path, steps, varying, range(begin, end))
+
+
+def _steps(path: str) -> Tuple[Any, int]:
     """The steps of a path with one star as C has them, and which of them has the star."""
     text, report, found = _encoded(path).replace(b"*", b"0", 1), ffi.new("capvet_report *"), ffi.new("capvet_node *")
-    # (without a message, so that only the limits and the path are looked at)
-    answer = lib.capvet_get(ffi.NULL, 0, limits_of(limits), text, len(text), found, report)
-    if answer == lib.CAPVET_BAD_PATH:
-        raise _path_error(report.detail)
-    if answer != lib.CAPVET_NO_MESSAGE:
-        raise error_of(answer, report)
+    # (without a message, so that only the path is looked at)
+    if lib.capvet_get(ffi.NULL, 0, LARGEST.raw, text, len(text), found, report) == lib.CAPVET_BAD_PATH:
+        raise _path_error(path, report.detail)
     parts, star = path.split("/")[1:], path.find("*")
     # ("/p1*" has a star, and no step that is one)
     if all(part[1:] != "*" for part in parts):
-        raise _path_error(len(path) if star < 0 else star)
+        raise _path_error(path, len(path) if star < 0 else star)
     kinds = {"p": lib.CAPVET_STEP_POINTER, "i": lib.CAPVET_STEP_ELEMENT}
     steps = [(kinds[part[0]], 0 if part[1:] == "*" else int(part[1:])) for part in parts]
     return ffi.new("capvet_step[]", steps), path.count("/", 0, star) - 1
 
 
-def _nodes(view: memoryview, path: str, steps: Any, varying: int, number: int, end: int,
-           limits: Limits) -> Iterator[Optional[Node]]:
-    start, raw_limits, size = pointer_to(view), limits_of(limits), None
+def _nodes(source: Source, path: str, steps: Any, varying: int, numbers: range) -> Iterator[Optional[Node]]:
+    view, number, end, size = source.view, numbers.start, numbers.stop, None
+    start, raw_limits = pointer_to(view), source.rules.raw
     block, found, report = uncleared("capvet_node[]", _BLOCK), ffi.new("size_t *"), ffi.new("capvet_report *")
     while number < end:
         steps[varying].number = number
         answer = lib.capvet_get_range(start, len(view), raw_limits, steps, len(steps), varying, block,
                                       min(_BLOCK, end - number), found, report)
         for index in range(found[0]):
-            yield _node_of(block[index], view)
+            yield _node_of(block[index], source)
         number += found[0]
         if answer not in (lib.CAPVET_OK, lib.CAPVET_NO_NODE):
-            raise error_of(answer, report)
+            raise _error_of(answer, report, source)
         if answer == lib.CAPVET_NO_NODE:
             # (after the last number, or below a null element)
             if size is None:
-                size = _size(view, path, limits)
+                size = _size(source, path)
                 end = min(end, size)
             if number < end:
                 yield None
             number += 1
 
 
-def _size(view: memoryview, path: str, limits: Limits) -> int:
+def _size(source: Source, path: str) -> int:
     """How many numbers the star of a path can have."""
     above, _, kind = path[:path.index("*")].rpartition("/")
-    holder = node(view, above or "/", limits=limits)
+    holder = get(source, above or "/")
     if holder is None:
         return 0
     if kind == "p":

@@ -2,107 +2,33 @@
 
 from __future__ import annotations
 
-from dataclasses import dataclass, field
-from typing import Any, Dict, Iterator, Optional, Union
+import io
+from collections import deque
+from types import TracebackType
+from typing import AsyncIterator, Deque, Iterator, Optional, Type
 
-from ._capvet import ffi, lib
-from .buffers import Buffer, Readable, pointer_to, read_only
-from .errors import Refusal, frame_error, refusal
-from .frames import PIECE, Frames, Vetter, frames_of
-from .reports import DEFAULT, Limits, Report, report_of
-
-
-@dataclass(frozen=True)
-class Message:
-    """One message of a stream: an `Accepted` or a `Refused`. It can be pickled, with a copy of its bytes."""
-
-    number: int
-    """The number of the message in the stream, from 0."""
-    offset: int
-    """Where it starts in the stream, in bytes as they came (packed bytes if the stream is packed)."""
-    data: Optional[memoryview] = field(repr=False)
-    """The frame, unpacked; None if it was refused."""
-    raw: memoryview = field(repr=False)
-    """The frame, unpacked, even if it was refused: for a log."""
-    report: Optional[Report]
-    """What is known of an accepted message."""
-    refusal: Optional[Refusal]
-    """Why it was refused."""
-
-    def __getstate__(self) -> Dict[str, Any]:
-        return {**vars(self), "data": None, "raw": bytes(self.raw)}
-
-    def __setstate__(self, state: Dict[str, Any]) -> None:
-        raw = memoryview(state["raw"])
-        vars(self).update(state, raw=raw, data=None if state["refusal"] else raw)
+from .buffers import AsyncReadable, Buffer, Readable
+from .frames import PIECE, frames_of
+from .message import Verdict
+from .reports import DEFAULT, Limits
 
 
-@dataclass(frozen=True)
-class Accepted(Message):
-    """A message that is accepted. `data` and `raw` are the same."""
-
-    data: memoryview = field(repr=False)
-    report: Report
-    refusal: None
-
-
-@dataclass(frozen=True)
-class Refused(Message):
-    """A message that is refused."""
-
-    data: None = field(repr=False)
-    report: None
-    refusal: Refusal
-
-
-def _message(number: int, offset: int, raw: memoryview, answer: int, report: Any) -> Union[Accepted, Refused]:
-    if answer == lib.CAPVET_OK:
-        return Accepted(number, offset, raw, raw, report_of(report), None)
-    return Refused(number, offset, None, raw, None, refusal(answer, report))
-
-
-def _taken(frames: Frames, answer: int) -> Union[Accepted, Refused]:
-    """The message that was found."""
-    if frames.is_at_fault:
-        raise frames.fault()
-    number, offset = frames.number, frames.offset
-    return _message(number, offset, frames.take(), answer, frames.report)
-
-
-def messages(data: Buffer, *, exclusive: bool = False, limits: Limits = DEFAULT) -> Iterator[Union[Accepted, Refused]]:
-    """Iterate over the messages of a buffer, and go on after a refused one. Copies no message.
-
-    Raises FrameError where the buffer stops being a stream of frames. Limits.no_table raises ValueError.
-
-    `data` that Python can write are copied once, by this call. Pass memoryview(data).toreadonly() if no thread writes them.
-    """
-    return _messages(read_only(data), Vetter(exclusive, limits))
-
-
-def _messages(view: memoryview, vetter: Vetter) -> Iterator[Union[Accepted, Refused]]:
-    start, number, offset = pointer_to(view), 0, 0
-    while offset < len(view):
-        report = ffi.new("capvet_report *")
-        answer = vetter.answer(start + offset, len(view) - offset, report)
-        if not report.length:
-            error = frame_error(answer, report)
-            error.offset = offset
-            raise error
-        yield _message(number, offset, view[offset:offset + report.length], answer, report)
-        number, offset = number + 1, offset + report.length
-
-
-class MessageReader(Iterator[Union[Accepted, Refused]]):
+class MessageReader(Iterator[Verdict]):
     """The iterator that read_messages() returns."""
 
-    def __init__(self, file: Readable, packed: bool, exclusive: bool, limits: Limits) -> None:
-        self._frames, self._is_packed = frames_of(packed, exclusive, limits), packed
+    def __init__(self, file: Readable, packed: bool, read_ahead: bool, limits: Limits) -> None:
+        self._frames, self._ready = frames_of(packed, limits), deque()  # type: ignore[var-annotated]
         if not callable(getattr(file, "read", None)):
             raise TypeError("the file has to have a method read, as binary files and socket.makefile('rb') have")
+        if packed and not read_ahead:
+            raise ValueError("a packed stream is read ahead: only its bytes say where a message ends")
         # (`read` of a buffered file loses its bytes if the device fails, and `read1` returns nothing of one that is not
         # blocking, as at the end)
         self._peek = getattr(file, "peek", None)
         self._read = file.read if self._peek else getattr(file, "read1", file.read)
+        # (`read` of other files may wait until all bytes are there that were asked for)
+        has_parts = self._peek is not None or hasattr(file, "read1") or isinstance(file, io.RawIOBase)
+        self._least = PIECE if packed or read_ahead and has_parts else 1
         self._is_at_end, self._piece = False, b""
 
     @property
@@ -113,22 +39,28 @@ class MessageReader(Iterator[Union[Accepted, Refused]]):
     def __iter__(self) -> MessageReader:
         return self
 
-    def __next__(self) -> Union[Accepted, Refused]:
-        while True:
-            answer = self._frames.find()
-            if answer is not None:
-                return _taken(self._frames, answer)
-            if self._is_at_end and self._frames.is_cut:
-                raise self._frames.fault()
+    def __next__(self) -> Verdict:
+        if not self._ready:
+            self._receive()
+        verdict: Verdict = self._ready.popleft()
+        return verdict
+
+    def _receive(self) -> None:
+        """Reads until a message is whole."""
+        frames = self._frames
+        while not (records := frames.find()):
+            if frames.is_at_fault or self._is_at_end and frames.is_cut:
+                raise frames.fault()
             if self._is_at_end:
                 raise StopIteration
             if not self._piece:
                 # (in pieces, so that a table that claims much makes no large buffer)
-                self._piece = self._some(PIECE if self._is_packed else min(self._frames.missing, 16 * PIECE))
+                self._piece = self._some(max(self._least, min(frames.missing, 16 * PIECE)))
                 self._is_at_end = not self._piece
             # (which may find no memory, and then the piece is still there)
-            self._frames.add(self._piece)
+            frames.add(self._piece)
             self._piece = b""
+        self._ready.extend(frames.take(records))
 
     def _some(self, size: int) -> bytes:
         """At most so many bytes, and none at the end. If this raises, the file has lost none of them.
@@ -144,38 +76,46 @@ class MessageReader(Iterator[Union[Accepted, Refused]]):
         return piece
 
 
-def read_messages(file: Readable, *, packed: bool = False, exclusive: bool = False, limits: Limits = DEFAULT) -> MessageReader:
+def read_messages(file: Readable, *, packed: bool = False, read_ahead: bool = True, limits: Limits = DEFAULT) -> MessageReader:
     """Iterate over the messages of a binary file, of gzip.open() or of socket.makefile("rb"), and go on after a refused one.
 
-    Each message is yielded as soon as its last byte has come. The iterator then keeps nothing of it. It holds the part of
-    the next message that has come, never more than Limits.message_words allows. Plain streams are not read ahead; packed
-    ones by at most 64 KiB.
+    Each message is yielded as soon as its last byte has come. The iterator then keeps nothing of it. It holds at most 64 KiB
+    of messages that were read with it, and what has come of one more, never more than Limits.message_words allows. Pass read_ahead=False if the file is read by others after a message: then no byte after
+    that message is read. A file that has `read`, but neither `read1` nor `peek`, is never read ahead.
 
     Raises FrameError where the stream ends in the middle of a message or stops being one, and again if it is asked again.
-    Limits.no_table raises ValueError.
 
     If `read` raises, for example TimeoutError, the exception passes through and nothing is lost: the next step goes on.
     A file that is not blocking raises BlockingIOError so. (After a timeout socket.makefile() can't be read any more. Use
     MessageFeed with socket.recv there.)
     """
-    return MessageReader(file, packed, exclusive, limits)
+    return MessageReader(file, packed, read_ahead, limits)
 
 
 class MessageFeed:
-    """The messages of a stream whose bytes you receive yourself, for example by asyncio.
+    """The messages of a stream whose bytes you receive yourself.
 
-        feed = capvet.MessageFeed()
-        while data := await reader.read(65536):
-            for message in feed.feed(data):
-                ...
-        feed.close()
+        with capvet.MessageFeed() as feed:
+            while data := connection.recv(65536):
+                for verdict in feed.feed(data):
+                    ...
+
+    The block closes the feed at its end, unless it ends by an exception: so a stream that is cut raises FrameError.
 
     It holds the bytes that are not yet yielded. They are at most those of one call of feed() and of one message, and
-    Limits.message_words bounds the message. Limits.no_table raises ValueError. Use a feed from one thread at a time.
+    Limits.message_words bounds the message. Use a feed from one thread at a time.
     """
 
-    def __init__(self, *, packed: bool = False, exclusive: bool = False, limits: Limits = DEFAULT) -> None:
-        self._frames, self._is_closed = frames_of(packed, exclusive, limits), False
+    def __init__(self, *, packed: bool = False, limits: Limits = DEFAULT) -> None:
+        self._frames, self._is_closed = frames_of(packed, limits), False
+        self._ready: Deque[Verdict] = deque()
+
+    def __enter__(self) -> MessageFeed:
+        return self
+
+    def __exit__(self, kind: Optional[Type[BaseException]], error: Optional[BaseException], trace: Optional[TracebackType]) -> None:
+        if kind is None and not self._is_closed:
+            self.close()
 
     @property
     def received(self) -> int:
@@ -187,7 +127,7 @@ class MessageFeed:
         """How many bytes have to come at least before there is a next message. It is asked after feed() has no more."""
         return self._frames.missing
 
-    def feed(self, data: Buffer) -> Iterator[Union[Accepted, Refused]]:
+    def feed(self, data: Buffer) -> Iterator[Verdict]:
         """Add the next bytes of the stream, any number of them, and iterate over the messages that are then complete.
 
         The call itself copies the bytes. Messages that the iteration does not reach are yielded by that of the next call.
@@ -200,9 +140,17 @@ class MessageFeed:
         self._frames.add(data)
         return self._complete()
 
-    def _complete(self) -> Iterator[Union[Accepted, Refused]]:
-        while (answer := self._frames.find()) is not None:
-            yield _taken(self._frames, answer)
+    def _complete(self) -> Iterator[Verdict]:
+        frames, ready = self._frames, self._ready
+        while True:
+            while ready:
+                yield ready.popleft()
+            records = frames.find()
+            if not records:
+                break
+            ready.extend(frames.take(records))
+        if frames.is_at_fault:
+            raise frames.fault()
 
     def close(self) -> None:
         """Say that the stream has ended.
@@ -211,7 +159,52 @@ class MessageFeed:
         last iteration was left before its end: then there are messages that nobody has seen.
         """
         self._is_closed = True
-        if self._frames.find() is not None and not self._frames.is_at_fault:
+        if self._ready or self._frames.find():
             raise ValueError("the last messages were not read: go through all that feed() yields")
         if self._frames.is_at_fault or self._frames.is_cut:
             raise self._frames.fault()
+
+
+class AsyncMessageReader(AsyncIterator[Verdict]):
+    """The asynchronous iterator that async_read_messages() returns."""
+
+    def __init__(self, reader: AsyncReadable, packed: bool, limits: Limits) -> None:
+        if not callable(getattr(reader, "read", None)):
+            raise TypeError("the reader has to have a coroutine read, as asyncio.StreamReader has")
+        self._read, self._frames, self._is_at_end = reader.read, frames_of(packed, limits), False
+        self._ready: Deque[Verdict] = deque()
+
+    @property
+    def received(self) -> int:
+        """How many bytes were read."""
+        return self._frames.received
+
+    def __aiter__(self) -> AsyncMessageReader:
+        return self
+
+    async def __anext__(self) -> Verdict:
+        frames = self._frames
+        while not self._ready:
+            if records := frames.find():
+                self._ready.extend(frames.take(records))
+            elif frames.is_at_fault or self._is_at_end and frames.is_cut:
+                raise frames.fault()
+            elif self._is_at_end:
+                raise StopAsyncIteration
+            else:
+                piece = await self._read(PIECE)
+                self._is_at_end = not piece
+                frames.add(piece)
+        return self._ready.popleft()
+
+
+def async_read_messages(reader: AsyncReadable, *, packed: bool = False, limits: Limits = DEFAULT) -> AsyncMessageReader:
+    """Iterate asynchronously over the messages of an asyncio.StreamReader, and go on after a refused one.
+
+    Each message is yielded as soon as its last byte has come. The iterator holds at most 64 KiB of messages that came with
+    it, and what has come of one more, never more than Limits.message_words allows.
+
+    Raises FrameError where the stream ends in the middle of a message or stops being one, and again if it is asked again.
+    If a step is cancelled, for example by asyncio.wait_for(), or if `read` raises, no byte is lost: the next step goes on.
+    """
+    return AsyncMessageReader(reader, packed, limits)

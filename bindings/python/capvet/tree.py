@@ -4,19 +4,20 @@ lists need no memory."""
 from __future__ import annotations
 
 import json
-from typing import Any, Callable, Dict, Iterator, List, Sequence, Union
+from typing import Any, Callable, Dict, Iterator, List
 
-from .streams import Accepted, Refused
-from .walking import PIECE, Segments, Spot, own_bytes, segments_of, text_pieces, walk
+from .errors import Refusal
+from .message import Verdict
+from .walking import Segments, Spot, own_bytes, segments_of, text_pieces, walk
 
 _OWN = {"struct": "d", "values": "w"}
 _CHILDREN = {"struct": "pointers", "pointers": "elements", "structs": "elements"}
 
 
-def verdict(message: Union[Accepted, Refused]) -> str:
+def verdict(message: Verdict) -> str:
     """The line about a message, as `capvet vet` prints it."""
-    if message.report is None:
-        return f"message {message.number}: {message.refusal}\n"
+    if isinstance(message, Refusal):
+        return f"message {message.number}: {message}\n"
     report = message.report
     return (f"message {message.number}: accepted charge {report.charge} depth {report.depth} pointers {report.pointers} "
             f"caps {report.capabilities}\n")
@@ -40,12 +41,12 @@ def _head(spot: Spot) -> str:
     }[spot.kind]
 
 
-def text_lines(message: Union[Accepted, Refused]) -> Iterator[str]:
+def text_lines(message: Verdict) -> Iterator[str]:
     """The lines of `capvet dump` about a message, and the guessed texts."""
     yield verdict(message)
-    if message.report is None:
+    if isinstance(message, Refusal):
         return
-    segments = segments_of(message.raw)
+    segments = segments_of(message)
     for spot in walk(segments):
         indent = "  " * spot.level
         yield f"{indent}{spot.label} {_head(spot)}"
@@ -77,18 +78,18 @@ def _in_json(text: str) -> str:
     return json.dumps(text)[1:-1]
 
 
-def json_pieces(message: Union[Accepted, Refused]) -> Iterator[str]:
+def json_pieces(message: Verdict) -> Iterator[str]:
     """One JSON object about a message, on one line."""
-    about: Dict[str, Any] = {"message": message.number, "offset": message.offset, "accepted": message.report is not None}
-    if message.report is None:
-        refusal = message.refusal
-        about.update(reason=refusal.reason, segment=refusal.segment, word=refusal.word, pointers=refusal.pointers)
+    about: Dict[str, Any] = {"message": message.number, "offset": message.offset, "accepted": not isinstance(message, Refusal)}
+    if isinstance(message, Refusal):
+        segment, word = message.position or (0, 0)
+        about.update(reason=message.reason, segment=segment, word=word, pointer=message.pointer or 0)
         yield json.dumps(about) + "\n"
         return
     report = message.report
     about.update(charge=report.charge, depth=report.depth, pointers=report.pointers, capabilities=report.capabilities)
     yield json.dumps(about)[:-1] + ', "root": '
-    segments = segments_of(message.raw)
+    segments = segments_of(message)
     closers: List[str] = []
     path: List[str] = []
     for spot in walk(segments):

@@ -8,20 +8,25 @@ import csv
 import json
 import multiprocessing
 import os
+import shutil
 import signal
 import stat
 import time
 from collections import Counter, deque
 from dataclasses import dataclass, field
 from multiprocessing.connection import Connection, wait
-from typing import Any, Deque, Dict, Iterator, List, NamedTuple, Optional, Sequence, TextIO
+from multiprocessing.reduction import recv_handle, send_handle
+from typing import Any, ContextManager, Deque, Dict, Iterator, List, NamedTuple, Optional, Sequence, TextIO
 
 from ._capvet import lib
 from .errors import name_of
 from .frames import Frames, frames_of
 from .reports import Limits
 
-_PIECE = 1 << 20
+STANDARD_INPUT = "-"
+"""The name of standard input among those of files."""
+_PIECE, _READ = 1 << 20, 1 << 16
+"""How many bytes are read of a file, and of one that fsspec opens."""
 _MOST_ROWS = 1 << 16
 """How many characters of rows a part has, about."""
 _SECONDS = 0.1
@@ -39,7 +44,16 @@ class Row(NamedTuple):
     reason: str
     segment: Optional[int] = None
     word: Optional[int] = None
+    pointer: Optional[int] = None
+    length: Optional[int] = None
+    charge: Optional[int] = None
+    depth: Optional[int] = None
     pointers: Optional[int] = None
+    capabilities: Optional[int] = None
+
+
+_SHORT = 7
+"""How many fields the rows have where accepted messages have none."""
 
 
 @dataclass
@@ -64,9 +78,16 @@ class How(NamedTuple):
     """How files are vetted, and what is written of their refused messages: nothing, "csv" or "json"."""
 
     packed: bool
-    exclusive: bool
     limits: Limits
     form: Optional[str]
+    is_all: bool = False
+    """Whether accepted messages have rows too."""
+    compression: Optional[str] = None
+    """How files are compressed, by the names of fsspec."""
+
+    @property
+    def columns(self) -> int:
+        return len(Row._fields) if self.is_all else _SHORT
 
 
 class Part(NamedTuple):
@@ -81,9 +102,43 @@ class Part(NamedTuple):
     """Whether all files are done that the process was given."""
 
 
-def header(form: Optional[str]) -> str:
+def header(how: How) -> str:
     """The first line of the rows."""
-    return ",".join(Row._fields) + "\n" if form == "csv" else ""
+    return ",".join(Row._fields[:how.columns]) + "\n" if how.form == "csv" else ""
+
+
+def is_elsewhere(name: str) -> bool:
+    """Whether a name is one of fsspec, such as s3://bucket/name."""
+    return "://" in name
+
+
+def _opened(name: str, compression: Optional[str], given: Optional[int]) -> ContextManager[Any]:
+    """A file, which fsspec opens if it is elsewhere or compressed, or standard input, by the descriptor that was given."""
+    if given is not None:
+        return open(given, "rb", buffering=0)
+    if compression is None and not is_elsewhere(name):
+        return open(name, "rb", buffering=0)
+    import fsspec
+    opened: ContextManager[Any] = fsspec.open(name, "rb", compression=compression)
+    return opened
+
+
+def _piece_of(file: Any) -> bytes:
+    """The next bytes of a file, or none at its end."""
+    # (where what unpacks a file finds a fault, `read` loses what came before it)
+    read = getattr(file, "read1", None)
+    piece: Optional[bytes] = file.read(_PIECE) if read is None else read(_READ)
+    if piece is None:
+        raise BlockingIOError("nothing has come yet, and the input doesn't block")
+    return piece
+
+
+def _is_slow(file: Any) -> bool:
+    """Whether a file is a pipe, which may give nothing more for long."""
+    try:
+        return not stat.S_ISREG(os.fstat(file.fileno()).st_mode)
+    except (AttributeError, OSError):
+        return False
 
 
 @dataclass
@@ -103,11 +158,11 @@ class _Batch:
         self.size += len(text)
         return len(text)
 
-    def row(self, row: Row, form: Optional[str]) -> None:
-        if form == "csv":
-            csv.writer(self, lineterminator="\n").writerow(row)
-        elif form:
-            self.write(json.dumps(row._asdict()) + "\n")
+    def row(self, row: Row, how: How) -> None:
+        if how.form == "csv":
+            csv.writer(self, lineterminator="\n").writerow(row[:how.columns])
+        elif how.form:
+            self.write(json.dumps(dict(zip(Row._fields[:how.columns], row))) + "\n")
 
 
 class _Run:
@@ -126,9 +181,10 @@ class _Run:
             self.send(is_inside, False)
         return is_due
 
-    def vet(self, names: Sequence[str]) -> None:
+    def vet(self, names: Sequence[str], given: Optional[int]) -> None:
+        """Vets files. With a descriptor there is one, which is standard input."""
         for name in names:
-            is_sent = self.vet_file(name)
+            is_sent = self.vet_file(name, given)
             self.batch.tally.files += 1
             # (so no file is in a part and in a later one again, if a process is killed)
             if is_sent:
@@ -137,14 +193,13 @@ class _Run:
                 self.send_if_due(False)
         self.send(False, True)
 
-    def vet_file(self, name: str) -> bool:
+    def vet_file(self, name: str, given: Optional[int]) -> bool:
         """Vets a file, and returns whether a part of it was sent."""
-        frames, is_sent = frames_of(self.how.packed, self.how.exclusive, self.how.limits), False
+        frames, is_sent = frames_of(self.how.packed, self.how.limits), False
         try:
-            with open(name, "rb", buffering=0) as file:
-                # (a pipe may give nothing more for long)
-                is_slow = not stat.S_ISREG(os.fstat(file.fileno()).st_mode)
-                while piece := file.read(_PIECE):
+            with _opened(name, self.how.compression, given) as file:
+                is_slow = _is_slow(file)
+                while piece := _piece_of(file):
                     self.batch.tally.bytes += len(piece)
                     frames.add(piece)
                     is_sent = self.vet_messages(name, frames) or is_sent
@@ -153,30 +208,39 @@ class _Run:
                         break
                 if frames.is_at_fault or frames.is_cut:
                     self.stop(name, frames, self.batch.tally.stopped, frames.fault().reason)
-        except (OSError, MemoryError) as error:
+        except Exception as error:
+            # (those of fsspec, and of what unpacks files, are of many kinds)
             self.stop(name, frames, self.batch.tally.failed, type(error).__name__)
-            self.batch.faults.append(str(error) or f"{name}: out of memory")
+            text = str(error) or ("out of memory" if isinstance(error, MemoryError) else type(error).__name__)
+            self.batch.faults.append(text if isinstance(error, OSError) and error.filename else f"{name}: {text}")
         return is_sent
 
     def stop(self, name: str, frames: Frames, counter: Counter[str], reason: str) -> None:
         counter[reason] += 1
-        self.batch.row(Row(name, frames.number, frames.offset, reason), self.how.form)
+        self.batch.row(Row(name, frames.number, frames.offset, reason), self.how)
 
     def vet_messages(self, name: str, frames: Frames) -> bool:
         """Vets the messages that have come, and returns whether a part was sent."""
-        is_sent, report = False, frames.report
-        while (answer := frames.find()) is not None and not frames.is_at_fault:
-            self.batch.tally.messages += 1
-            if answer == lib.CAPVET_OK:
-                self.batch.tally.accepted += 1
-            else:
-                reason = name_of(answer)
-                self.batch.tally.refused[reason] += 1
-                self.batch.row(Row(name, frames.number, frames.offset, reason, report.segment, report.word, report.pointers),
-                               self.how.form)
+        is_sent = False
+        while records := frames.find():
+            first = frames.number
+            frames.drop(records)
+            for number, record in enumerate(records, first):
+                self.batch.tally.messages += 1
+                offset, length, charge, pointers, capabilities, depth, _, segment, word, answer, _ = record
+                if answer == lib.CAPVET_OK:
+                    self.batch.tally.accepted += 1
+                    if not self.how.is_all:
+                        continue
+                    row = Row(name, number, offset, "accepted", None, None, None, length, charge, depth, pointers, capabilities)
+                else:
+                    reason = name_of(answer)
+                    self.batch.tally.refused[reason] += 1
+                    # (of a refused message the record has the number of the pointer there)
+                    row = Row(name, number, offset, reason, segment, word, pointers, length)
+                self.batch.row(row, self.how)
                 if self.batch.size >= _MOST_ROWS:
                     is_sent = self.send_if_due(True) or is_sent
-            frames.skip()
         return is_sent
 
 
@@ -189,7 +253,9 @@ def _work(connection: Connection, others: List[Connection], how: How) -> None:
     signal.signal(signal.SIGINT, signal.SIG_IGN)
     try:
         while True:
-            _Run(connection, how).vet(connection.recv())
+            names = connection.recv()
+            # (a process that multiprocessing begins has no standard input)
+            _Run(connection, how).vet(names, recv_handle(connection) if STANDARD_INPUT in names else None)
     except (EOFError, OSError):
         pass
 
@@ -205,7 +271,10 @@ class _Worker:
 
 
 class Files:
-    """Vets files by some processes. Iterate over it for the parts, which come in no fixed order. close() ends it at once."""
+    """Vets files by some processes. Iterate over it for the parts, which come in no fixed order. close() ends it at once.
+
+    STANDARD_INPUT may be one of the names, once.
+    """
 
     def __init__(self, names: Sequence[str], jobs: int, how: How) -> None:
         self.size = 0
@@ -221,11 +290,12 @@ class Files:
         for name in names:
             size = _size(name)
             self.size += size or 0
-            if not groups or size is None or group_size + size > _MOST_BYTES or len(groups[-1]) == _MOST_FILES:
+            is_alone = size is None or name == STANDARD_INPUT
+            if not groups or is_alone or group_size + (size or 0) > _MOST_BYTES or len(groups[-1]) == _MOST_FILES:
                 groups.append([])
                 group_size = 0
             groups[-1].append(name)
-            group_size += _MOST_BYTES if size is None else size
+            group_size += _MOST_BYTES + 1 if is_alone else size or 0
         return groups
 
     def __enter__(self) -> Files:
@@ -255,6 +325,8 @@ class Files:
         worker.names, worker.is_inside = self._waiting.popleft(), False
         try:
             worker.connection.send(worker.names)
+            if STANDARD_INPUT in worker.names:
+                send_handle(worker.connection, 0, worker.process.pid)
         except OSError:
             # (it was killed, which the next look at its connection shows, and has none of these files)
             self._waiting.appendleft(worker.names)
@@ -292,7 +364,7 @@ class Files:
         if names and (worker.is_inside or len(names) == 1):
             name, names = names[0], names[1:]
             batch = _Batch(Tally(files=1, failed=Counter(KilledWorker=1)))
-            batch.row(Row(name, 0, 0, "KilledWorker"), self._how.form)
+            batch.row(Row(name, 0, 0, "KilledWorker"), self._how)
             fault = f"{name}: the process that vetted it was killed (status {worker.process.exitcode})"
             yield Part(batch.tally, "".join(batch.rows), [fault], False, False)
         self._waiting.extendleft([name] for name in reversed(names))
@@ -301,14 +373,16 @@ class Files:
 def _size(name: str) -> Optional[int]:
     """How many bytes a file has, or None for a pipe and the like."""
     try:
-        status = os.stat(name)
+        status = os.stat(0 if name == STANDARD_INPUT else name)
     except OSError:
         return 0
     return status.st_size if stat.S_ISREG(status.st_mode) else None
 
 
-def summary(tally: Tally) -> str:
+def summary(tally: Tally, form: str = "text") -> str:
     """How many files, messages and bytes there are, and how many messages are refused for each reason."""
+    if form == "json":
+        return json.dumps(vars(tally)) + "\n"
     text = (f"files {tally.files} bytes {tally.bytes} messages {tally.messages} accepted {tally.accepted} "
             f"refused {sum(tally.refused.values())}\n")
     for word, counts in (("refused", tally.refused), ("stopped", tally.stopped), ("failed", tally.failed)):
@@ -317,13 +391,14 @@ def summary(tally: Tally) -> str:
 
 
 class Bar:
-    """How many bytes are done, on a terminal. Elsewhere it shows nothing."""
+    """How many bytes are done, and how long the others take, on a terminal. Elsewhere it shows nothing. Where the bytes are not
+    known it counts files."""
 
     _WIDTH = 30
 
-    def __init__(self, out: TextIO, total: int) -> None:
+    def __init__(self, out: TextIO, total: int, unit: str = "MiB") -> None:
         self._out, self._total, self._is_shown = out if out.isatty() else None, total, False
-        self._time = 0.0
+        self._time, self._begin, self._unit = 0.0, time.monotonic(), unit
 
     def show(self, done: int) -> None:
         """Shows it, if it has changed for long enough or was hidden."""
@@ -331,9 +406,12 @@ class Bar:
         if self._out is None or self._is_shown and now - self._time < _SECONDS:
             return
         part = min(1.0, done / self._total) if self._total else 1.0
-        filled = int(part * self._WIDTH)
-        self._out.write(f"\r[{'#' * filled}{'.' * (self._WIDTH - filled)}] {int(part * 100):3}% "
-                        f"{done / 1048576:.1f} of {self._total / 1048576:.1f} MiB")
+        width = max(5, min(self._WIDTH, shutil.get_terminal_size().columns - 40))
+        filled = int(part * width)
+        numbers = f"{done} of {self._total} files" if self._unit == "files" else f"{done / 1048576:.1f} of {self._total / 1048576:.1f} MiB"
+        left = int((now - self._begin) * (1 - part) / part) if 0 < part < 1 else 0
+        self._out.write(f"\r[{'#' * filled}{'.' * (width - filled)}] {int(part * 100):3}% {numbers}"
+                        f"{f', {left // 60}:{left % 60:02} left' if left else ''}\x1b[K")
         self._out.flush()
         self._time, self._is_shown = now, True
 

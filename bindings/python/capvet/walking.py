@@ -5,12 +5,10 @@ from __future__ import annotations
 import codecs
 from typing import Iterator, List, NamedTuple, Optional, Sequence, Tuple
 
-from .calls import frame
+from .message import Message
 from .nodes import Kind
-from .reports import Limits
 
 _ELEMENT_BITS = (0, 1, 8, 16, 32, 64, 64)
-_LARGEST = Limits(message_words=268_435_456)
 
 Place = Tuple[int, int]
 Segments = List[Sequence[int]]
@@ -41,9 +39,9 @@ class Spot(NamedTuple):
     """The word of the pointer, or the first word of an element of a list of structs."""
 
 
-def segments_of(raw: memoryview) -> Segments:
-    """The words of each segment of a frame."""
-    return [raw[at:at + size].cast("Q") if size else () for at, size in frame(raw, limits=_LARGEST).segments]
+def segments_of(message: Message) -> Segments:
+    """The words of each segment of a message."""
+    return [data.cast("Q") if data else () for data in message.segments]
 
 
 def _offset(word: int) -> int:

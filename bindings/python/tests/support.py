@@ -20,6 +20,8 @@ sys.path.insert(0, str(TOP / "tests"))
 from made import changed, made_up, samples  # noqa: E402
 
 PROGRAM = os.environ.get("CAPVET_PROGRAM") or shutil.which("capvet") or str(TOP / "build/capvet")
+# How long a test waits for another process. Only a hang takes longer, however busy the machine is.
+SECONDS = 180
 CASES = int(os.environ.get("CAPVET_CASES", "1000"))
 FILES = sorted((TOP / "examples").glob("*.bin"))
 LAX = capvet.Limits(allow_nonstrict=True, allow_amplified=True)
@@ -34,10 +36,12 @@ def program(*words, data=None):
     return ran.stdout, ran.stderr.decode(), ran.returncode
 
 
-def line(number, report, refusal):
+def line(verdict):
     """The line of `vet` about a message."""
-    if refusal is not None:
-        return f"message {number}: {refusal}\n"
+    number = verdict.number
+    if isinstance(verdict, capvet.Refusal):
+        return f"message {number}: {verdict}\n"
+    report = verdict.report
     return (f"message {number}: accepted charge {report.charge} depth {report.depth} pointers {report.pointers} "
             f"caps {report.capabilities}\n")
 
@@ -47,10 +51,15 @@ def lines(messages):
     text = ""
     try:
         for message in messages:
-            text += line(message.number, message.report, message.refusal)
+            text += line(message)
     except capvet.FrameError as error:
         return text.encode(), error.reason
     return text.encode(), None
+
+
+def bytes_of(verdict):
+    """The bytes of a message that is accepted or refused."""
+    return bytes(verdict.unvetted if isinstance(verdict, capvet.Refusal) else verdict.data)
 
 
 def many(count, seed=7):

@@ -11,6 +11,9 @@ import capvet
 from support import framed, samples
 
 
+EXCLUSIVE = capvet.Limits(exclusive=True)
+
+
 def resident():
     with open("/proc/self/statm") as file:
         return int(file.read().split()[1]) * resource.getpagesize()
@@ -18,17 +21,18 @@ def resident():
 
 def test_no_leak():
     count = int(os.environ.get("CAPVET_CALLS", "100000")) // 8
-    message, cycle, packed = samples()[0], b"\0\0\0\0\1\0\0\0\xfc\xff\xff\xff\0\0\1\0", capvet.pack(samples()[0])
+    message, cycle, packed = samples()[0], b"\0\0\0\0\1\0\0\0\xfc\xff\xff\xff\0\0\1\0", capvet.pack_words(samples()[0])
 
     def calls(times):
         for _ in range(times):
             capvet.vet(message)
-            capvet.vet_exclusive(message)
-            capvet.canonical(message)
-            capvet.node(message, "/p0/i1/p4")
-            list(capvet.nodes(message, "/p0/i*/p4"))
+            vetted = capvet.vet(message, limits=EXCLUSIVE)
+            vetted.canonical()
+            vetted.get("/p0/i1/p4")
+            list(vetted.get_range("/p0/i*/p4"))
+            capvet.vet_all(message)[0].report
             capvet.frame(message)
-            capvet.unpack(packed)
+            capvet.unpack_words(packed)
             list(capvet.messages(message))
             try:
                 capvet.vet(cycle)
@@ -59,14 +63,14 @@ def no_interruptions():
     sys.setswitchinterval(interval)
 
 
-def lets_others_run(call):
-    """Whether this thread runs during a call of another one, in one of 100 tries."""
+def lets_others_run(call, tries):
+    """Whether this thread runs during a call of another one, in one of so many tries."""
     def work():
         steps.append("begun")
         call()
         steps.append("ended")
 
-    for _ in range(100):
+    for _ in range(tries):
         steps = []
         thread = threading.Thread(target=work)
         thread.start()
@@ -80,9 +84,38 @@ def lets_others_run(call):
 
 
 def test_the_lock_is_released(no_interruptions):
-    assert lets_others_run(lambda: capvet.vet(LONG))
+    # (one try is enough, but a busy machine may not run this thread in time)
+    assert lets_others_run(lambda: capvet.vet(LONG), 10_000)
     # (a call that keeps the lock is found out)
-    assert not lets_others_run(lambda: sum(range(1000)))
+    assert not lets_others_run(lambda: sum(range(1000)), 100)
+
+
+def least(call):
+    """The least seconds of processor time of a call, of ten."""
+    times = []
+    for _ in range(10):
+        begin = time.process_time()
+        call()
+        times.append(time.process_time() - begin)
+    return min(times)
+
+
+@pytest.mark.skipif("CAPVET_IDLE" not in os.environ, reason="the time for a small message needs an idle machine")
+def test_many_small_messages(tmp_path):
+    count, file = 20_000, tmp_path / "messages"
+    # (96 bytes: a struct of eight data words and two null pointers)
+    data = framed(8 << 32 | 2 << 48, *[7] * 8, 0, 0) * count
+    file.write_bytes(data)
+
+    def read():
+        with open(file, "rb") as stream:
+            for _ in capvet.read_messages(stream):
+                pass
+
+    at_once, one_by_one, read_from_file = (least(call) / count * 1e6 for call in (
+        lambda: capvet.vet_all(data), lambda: [None for _ in capvet.messages(data)], read))
+    print(f"python: us for a message of 96 bytes: vet_all {at_once:.2f}, messages {one_by_one:.2f}, read_messages {read_from_file:.2f}")
+    assert at_once <= 0.5 and read_from_file <= 3 * one_by_one
 
 
 @pytest.mark.skipif("CAPVET_IDLE" not in os.environ, reason="the ratio of times needs an idle machine")

@@ -8,7 +8,7 @@ from contextlib import contextmanager
 import pytest
 
 import capvet
-from support import TOP, line, many, samples
+from support import SECONDS, TOP, line, many, samples
 
 SERVER = TOP / "examples/python/vet_server.py"
 CYCLE = (TOP / "examples/cycle.bin").read_bytes()
@@ -22,15 +22,15 @@ def server(*words):
     with subprocess.Popen(command, stdout=subprocess.PIPE, stderr=subprocess.PIPE, text=True) as process:
         port = int(process.stdout.readline())
         try:
-            yield process, lambda: socket.create_connection(("127.0.0.1", port), timeout=30)
+            yield process, lambda: socket.create_connection(("127.0.0.1", port), timeout=SECONDS)
         finally:
             process.send_signal(signal.SIGTERM)
 
 
 def of(message, number):
     """The line about a message, and whether it is accepted."""
-    it = next(capvet.messages(message))
-    return line(number, it.report, it.refusal), it.refusal is None
+    verdict = next(capvet.messages(message))
+    return line(verdict).replace("message 0", f"message {number}"), isinstance(verdict, capvet.Message)
 
 
 @pytest.mark.parametrize("packed", [False, True], ids=["plain", "packed"])
@@ -56,7 +56,8 @@ def test_a_message_and_a_half(packed):
 
 def test_peers_that_are_slow_or_large():
     small = samples()[-1]
-    with server("--seconds", 1, "--size", 100) as (process, connect):
+    # (a busy machine may need some time for the one that isn't slow)
+    with server("--seconds", 8, "--size", 100) as (process, connect):
         with connect() as slow, connect() as large, connect() as other:
             slow.sendall(small[:-1])
             large.sendall(samples()[0])

@@ -5,7 +5,7 @@ import re
 import pytest
 
 import capvet
-from support import CASES, FILES, LAX, STRICT, framed, many, program
+from support import CASES, FILES, LAX, STRICT, TOP, bytes_of, framed, many, program
 
 # A list of 4,098 elements without bits in one word: one more than an unamplified message has.
 AMPLIFIED = framed(1 | 4098 << 35)
@@ -21,13 +21,13 @@ LINES = """  path /
 
 def explained(messages, limits):
     """What the program writes of these messages after the line of each verdict."""
-    return [capvet.explain(message, limits=limits) or "" for message in messages]
+    return [it.explain() if isinstance(it, capvet.Refusal) else "" for it in capvet.messages(b"".join(messages), limits=limits)]
 
 
-@pytest.mark.parametrize("limits, options", [(capvet.DEFAULT, STRICT), (LAX, []),
+@pytest.mark.parametrize("limits, options", [(capvet.Limits(), STRICT), (LAX, []),
                                              (dataclasses.replace(LAX, depth=3, charge=30), ["--depth", 3, "--words", 30])])
 def test_as_the_program(limits, options):
-    messages = [bytes(it.raw) for file in FILES for it in capvet.messages(file.read_bytes())] + many(max(CASES, 2000))
+    messages = [bytes_of(it) for file in FILES for it in capvet.messages(file.read_bytes())] + many(max(CASES, 2000))
     text = program("explain", *options, data=b"".join(messages))[0].decode()
     # (the library explains one message, which is in no input, and only if it refuses it by these limits)
     text = re.sub(r", byte \d+ of the input", "", text)
@@ -37,36 +37,59 @@ def test_as_the_program(limits, options):
     assert explained(messages, limits) == expected
 
 
+def refused(data, **limits):
+    with pytest.raises(capvet.Refusal) as error:
+        capvet.vet(data, limits=capvet.Limits(**limits))
+    return error.value
+
+
 def test_lines():
     for buffer in (AMPLIFIED, bytearray(AMPLIFIED), memoryview(AMPLIFIED)):
-        assert capvet.explain(buffer) == LINES
+        assert refused(buffer).explain() == LINES
     # (without a table the pointer is at the first byte)
-    assert capvet.explain(AMPLIFIED[8:], limits=capvet.Limits(no_table=True)) == LINES.replace("byte 8", "byte 0")
-    assert capvet.explain(AMPLIFIED, limits=LAX) is None
+    with pytest.raises(capvet.Refusal) as error:
+        capvet.vet_words(AMPLIFIED[8:])
+    assert error.value.explain() == LINES.replace("byte 8", "byte 0")
 
 
 def test_the_longest_path():
-    lines = capvet.explain(framed(0xFFFFFFFC | 1 << 48), limits=capvet.Limits(depth=256))
-    assert lines.startswith("  path " + "/p0" * 256 + "\n")
+    assert refused(framed(0xFFFFFFFC | 1 << 48), depth=256).explain().startswith("  path " + "/p0" * 256 + "\n")
 
 
-def test_overlaps_are_not_looked_for():
-    # (two pointers to one struct of one word)
-    data = framed(2 << 48, 1 << 2 | 1 << 32, 1 << 32, 7)
-    with pytest.raises(capvet.Refusal):
-        capvet.vet_exclusive(data)
-    assert capvet.explain(data) is None
+def test_without_a_pointer():
+    assert refused(framed()).explain() == "  reason segment 0 has no words, so the message has no root pointer\n"
 
 
-@pytest.mark.parametrize("data, reason", [(b"", "NoMessage"), (framed(0)[:12], "Truncated"), (framed(0) + b"x", "Trailing")])
-def test_without_a_frame(data, reason):
-    with pytest.raises(capvet.FrameError) as error:
-        capvet.explain(data)
-    assert error.value.reason == reason
+def test_overlaps():
+    """The lines are those of the program."""
+    overlaps = 0
+    for data in [(TOP / "examples/shared.bin").read_bytes(), *many(max(CASES, 1000))]:
+        for it in capvet.messages(data, limits=dataclasses.replace(LAX, exclusive=True)):
+            if isinstance(it, capvet.Message) or it.reason != "Overlap":
+                continue
+            overlaps += 1
+            if overlaps > 40:
+                return
+            lines = program("explain", "--exclusive", data=data)[0].decode()
+            lines = re.sub(r", byte \d+ of the input", "", lines).splitlines()[1:]
+            said = it.explain().splitlines()
+            assert said == lines
+            assert (said[-1].split()[:4] == ["first", "used", "by", it.earlier_path]) == (it.earlier_path is not None)
+    assert overlaps > 10
 
 
-def test_arguments():
-    with pytest.raises(TypeError):
-        capvet.explain("text")
-    with pytest.raises(TypeError):
-        capvet.explain(AMPLIFIED, limits=None)
+def test_of_a_path():
+    with pytest.raises(capvet.Refusal) as error:
+        capvet.peek(framed(1 << 48, 1 << 34), "/p0")
+    assert (error.value.reason, error.value.position, error.value.pointer, error.value.path) == ("OutOfSegment", (0, 1), None, None)
+    # (the lines would be those of the first pointer that is refused, perhaps another one)
+    with pytest.raises(ValueError):
+        error.value.explain()
+
+
+def test_bytes_that_changed():
+    data = bytearray(AMPLIFIED)
+    refusal = refused(memoryview(data).toreadonly())
+    data[8:] = bytes(8)
+    with pytest.raises(RuntimeError):
+        refusal.explain()

@@ -12,9 +12,9 @@ def framed(*words):
     return struct.pack(f"<II{len(words)}Q", 0, len(words), *words)
 
 
-def refusal_of(data, limits=capvet.Limits(), vet=capvet.vet):
+def refusal_of(data, limits=capvet.Limits()):
     with pytest.raises(capvet.Refusal) as error:
-        vet(data, limits=limits)
+        capvet.vet(data, limits=limits)
     return error.value
 
 
@@ -24,34 +24,26 @@ def refusal_of(data, limits=capvet.Limits(), vet=capvet.vet):
     (framed(1 | 7 << 32 | 4 << 35, 2 << 2 | 2 << 48, 0, 0, 0, 1 << 34), capvet.Limits(), "/i1/p1"),
     (framed(0xFFFFFFFC | 1 << 48), capvet.Limits(depth=256), "/p0" * 256),
     (framed(1 << 48, 2 | 2 << 3, 0), capvet.Limits(), "/p0"),
-    (framed(1 << 48, 1 << 34)[8:], capvet.Limits(no_table=True), "/p0"),
     (framed(), capvet.Limits(), None),
-], ids=["root", "pointer", "element", "longest", "nonstrict", "no_table", "no_root"])
+], ids=["root", "pointer", "element", "longest", "nonstrict", "no_root"])
 def test_paths(data, limits, path):
     for buffer in (data, bytearray(data), memoryview(data)):
-        assert refusal_of(buffer, limits).path(buffer, limits=limits) == path
+        assert refusal_of(buffer, limits).path == path
 
 
 def test_overlap():
     # (two pointers to one struct of one word)
     data = framed(2 << 48, 1 << 2 | 1 << 32, 1 << 32, 7)
-    refusal = refusal_of(data, vet=capvet.vet_exclusive)
-    assert (refusal.reason, refusal.path(data), refusal.path(b"")) == ("Overlap", "/p1", None)
-    assert (refusal.earlier_path(data), refusal.earlier_path(b"")) == ("/p0", None)
+    refusal = refusal_of(data, capvet.Limits(exclusive=True))
+    assert (refusal.reason, refusal.path) == ("Overlap", "/p1")
+    assert refusal.earlier_path == "/p0"
 
 
 def test_overlap_with_the_root_word():
     # (no pointer uses that word)
     data = framed(1 << 48, 0xFFFFFFF8 | 1 << 32)
-    refusal = refusal_of(data, vet=capvet.vet_exclusive)
-    assert (refusal.reason, refusal.path(data), refusal.earlier_path(data)) == ("Overlap", "/p0", None)
-
-
-def test_arguments():
-    refusal = refusal_of(framed(1 << 34))
-    with pytest.raises(TypeError):
-        refusal.path("text")
-    assert refusal.path(framed(1 << 34), limits=capvet.Limits(depth=0)) == "/"
+    refusal = refusal_of(data, capvet.Limits(exclusive=True))
+    assert (refusal.reason, refusal.path, refusal.earlier_path) == ("Overlap", "/p0", None)
 
 
 def test_the_object_of_the_pointer_is_found():
@@ -61,9 +53,10 @@ def test_the_object_of_the_pointer_is_found():
         try:
             capvet.vet(data)
         except capvet.Refusal as refusal:
-            path = refusal.path(data)
+            path = refusal.path
+            assert (path is None) == (refusal.pointer is None) == (refusal.position is None)
             assert (path is None) == (refusal.reason in ("NoRoot", "ManySegments"))
             if path not in (None, "/"):
                 paths += 1
-                assert capvet.node(data, path.rpartition("/")[0] or "/", limits=limits).kind in ("struct", "pointers", "structs")
+                assert capvet.peek(data, path.rpartition("/")[0] or "/", limits=limits).kind in ("struct", "pointers", "structs")
     assert paths >= CASES // 20

@@ -1,4 +1,5 @@
 """Cases that hypothesis makes, beside the program."""
+import dataclasses
 import random
 
 from hypothesis import HealthCheck, given, settings
@@ -24,6 +25,7 @@ MESSAGES = st.one_of(
 def test_any_bytes(data, is_strict, is_exclusive):
     options = STRICT * is_strict + ["--exclusive"] * is_exclusive
     text, error, status = program("vet", *options, data=data)
-    got, reason = lines(capvet.messages(data, exclusive=is_exclusive, limits=capvet.DEFAULT if is_strict else LAX))
+    limits = dataclasses.replace(capvet.Limits() if is_strict else LAX, exclusive=is_exclusive)
+    got, reason = lines(capvet.messages(data, limits=limits))
     assert got == text
     assert (reason is None and error == "") or f": {reason}" in error

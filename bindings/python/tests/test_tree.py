@@ -92,7 +92,7 @@ def dumped(node, label="root", level=0):
 
 def dumped_message(about):
     if not about["accepted"]:
-        return f"message {about['message']}: refused {about['reason']} at {about['segment']}:{about['word']} pointers {about['pointers']}\n"
+        return f"message {about['message']}: refused {about['reason']} at {about['segment']}:{about['word']} pointers {about['pointer']}\n"
     return (f"message {about['message']}: accepted charge {about['charge']} depth {about['depth']} pointers {about['pointers']} "
             f"caps {about['capabilities']}\n") + dumped(about["root"])
 
@@ -123,7 +123,7 @@ def test_paths_and_places(name):
     message = (TOP / "examples" / name).read_bytes()
     segments, pointers = package.frame(message).segments, 0
     for node in of_tree(json.loads(capvet("tree", "--json", TOP / "examples" / name)[0])["root"]):
-        found = package.node(message, node["path"], limits=LAX)
+        found = package.vet(message, limits=LAX).get(node["path"])
         assert found.kind == node["kind"]
         at = segments[node["segment"]][0] + 8 * node["word"]
         if node["kind"] == "struct":
@@ -134,9 +134,9 @@ def test_paths_and_places(name):
         # (a pointer of no known kind is refused where it is)
         with pytest.raises(package.Refusal) as error:
             package.vet(message[:at] + b"\7" + bytes(7) + message[at + 8:], limits=LAX)
-        assert (error.value.reason, error.value.segment, error.value.word) == ("Reserved", node["segment"], node["word"])
+        assert (error.value.reason, error.value.position) == ("Reserved", (node["segment"], node["word"]))
         pointers += 1
-    assert pointers == package.vet(message, limits=LAX).pointers
+    assert pointers == package.vet(message, limits=LAX).report.pointers
 
 
 @pytest.mark.skipif(shutil.which("jq") is None, reason=needs.line("the JSON of tree, by jq", "jq"))
