@@ -2,55 +2,40 @@
 //
 //     import { vet, Refusal } from "capvet";
 //     try {
-//       const report = vet(bytes);
+//       const message = vet(bytes);
 //     } catch (error) {
-//       if (error instanceof Refusal) console.log(error.reason, error.segment, error.word);
+//       if (error instanceof Refusal) console.log(error.reason, error.position, error.path);
 //     }
 //
-//   check      vet(data, limits?), vetExclusive(data, limits?), vetSegments(segments, limits?)   a report
-//   frames     frame(data, limits?)                     { length, segments: [{ offset, length }] }
-//   buffers    messages(data, { exclusive?, ..limits }?)                an iterator of messages, accepted and refused
-//   streams    readMessages(source, { packed?, exclusive?, ..limits }?)   the same, an async iterator
-//              new MessageStream({ packed?, exclusive?, ..limits }?)      the same, for pipeThrough
-//   canonical  canonical(data, limits?), canonicalInto(data, out, limits?), isCanonical(data, limits?)
-//   read       node(data, path, limits?), nodes(data, path, { first?, count?, ..limits }?)
-//   explain    explain(data, limits?)                   lines that explain a refusal, or null
-//              pointerPath(data, refusal.pointers, limits?)   which field is refused, as a path
-//              earlierPath(data, refusal.pointers, limits?)   the other pointer of an overlap, as a path
-//   packing    pack(data), packMessage(data, limits?), unpack(data, { maxSize? }?)
-//   other      version()
+//   check      vet(data, limits?), vetPrefix(data, limits?), vetWords(words, limits?), vetSegments(segments, limits?)   a Message
+//   buffers    messages(data, limits?)                             an iterator of messages and refusals
+//   streams    readMessages(source, { packed?, ..limits }?)        the same, an async iterator
+//              new MessageStream({ packed?, ..limits }?)           the same, for pipeThrough
+//              new VettedByteStream({ onRefused?, packed?, ..limits }?)   the bytes of accepted messages, for pipeThrough
+//   Message    data, report, number, offset, segments, get(path), getRange(path, { first?, count? }?), canonical(),
+//              canonicalInto(out), isCanonical(), firstDifference()
+//   Report     length, words, segments, charge, depth, pointers, capabilities, firstCapability: { segment, word } | null,
+//              readerWords(readings?), readerNesting()
+//   canonical  isCanonicalWords(words, limits?)
+//   frames     frame(data, { messageWords? }?)                     { length, segments: [{ offset, length }] }
+//   unvetted   peek(data, path, limits?), peekRange(data, path, { first?, count?, ..limits }?)
+//   packing    packMessage(data, { messageWords? }?), packWords(words), unpackWords(data, { maxSize? }?)
+//   other      version(), errorOf(object)
 //
-// Limits: { messageWords, charge, depth, allowTrailing, allowNonstrict, allowAmplified, noTable }, each of them optional.
+// Limits: { messageWords, charge, depth, allowNonstrict, allowAmplified, exclusive }, each of them optional.
 //
-// Reports: { length, segments, charge, depth, pointers, capabilities, firstCapability: { segment, word } | null }
-//
-// Messages: { number, offset, data, raw, report, refusal }. `data` and `report` are null if it was refused, else `refusal` is.
+// Differences: { reason, position, pointers, path }
 //
 // Nodes: { kind, element, count, dataWords, pointers, capability, offset, data, text() }
 //
-// Errors: CapvetError, with `reason`, is the base class of
-//   Refusal { segment, word, pointers, length }, FrameError { required, detail, length, offset }, CapabilityError { report },
-//   PathError { position } and UnpackError. Wrong arguments throw TypeError or RangeError.
+// Errors: CapvetError, with `answer`, `reason` and toObject(), is the base class of
+//   Refusal { position, pointer, length, number, offset, unvetted, path, earlierPath, explain() },
+//   FrameError { required, segments, words, trailing, length, segment, number, offset }, CapabilityError { report },
+//   PathError { path, position } and UnpackError. Wrong arguments throw TypeError or RangeError.
 //
 // Every number is a `number`: those of 64 bits in C are below 2^53 too.
-import { load } from "./src/module.js";
+import { init } from "./src/init.js";
 
-export { CapabilityError, CapvetError, FrameError, PathError, Refusal, UnpackError } from "./src/answers.js";
-export {
-  canonical, canonicalInto, earlierPath, explain, frame, isCanonical, pack, packMessage, pointerPath, unpack, version, vet, vetExclusive,
-  vetSegments,
-} from "./src/calls.js";
-export { Node, node, nodes } from "./src/nodes.js";
-export { MessageStream, messages, readMessages } from "./src/streams.js";
+export * from "./src/index.js";
 
-// (a name that bundlers for browsers don't look for)
-const FILES = "node:fs/promises";
-
-async function read(url) {
-  if (url.protocol === "file:") return (await import(/* webpackIgnore: true */ /* @vite-ignore */ FILES)).readFile(url);
-  const response = await fetch(url);
-  if (!response.ok) throw new Error(`${url}: status ${response.status}`);
-  return response.arrayBuffer();
-}
-
-await load(await read(new URL("./capvet.wasm", import.meta.url)));
+await init();

@@ -1,10 +1,10 @@
 // Finds the messages in the chunks of a stream.
-import { NO_MESSAGE, OK, TRUNCATED, errorOf } from "./answers.js";
+import { NO_MESSAGE, OK, TRUNCATED, frameError } from "./answers.js";
 import { frameAnswer } from "./calls.js";
 import { MAX_WORDS, writeLimits } from "./limits.js";
-import { kindOf, messageOf } from "./messages.js";
+import { kindOf, streamed } from "./message.js";
 import {
-  PIECE_LIMITS, REPORT, SECOND, STATE, address, after, at, bytes, calls, number, place, plainBytesOf, setNumber, view,
+  PIECE_LIMITS, SECOND, STATE, address, after, at, bytes, calls, number, place, plainBytesOf, setNumber, view,
 } from "./module.js";
 import { frameLength } from "./table.js";
 
@@ -101,14 +101,14 @@ class Packed {
   unpack(words) {
     const packed = this.rest.subarray(0, PACKED_WORD * words), out = after(packed.length), size = 8 + 8 * words;
     place(packed, size);
-    writeLimits({ messageWords: MAX_WORDS, charge: 0, depth: 0, flags: 0 }, PIECE_LIMITS);
+    writeLimits({ messageWords: MAX_WORDS, charge: 0, depth: 0, flags: 0, form: 0 }, PIECE_LIMITS);
     setNumber(out, words * 2 ** 32);
     setNumber(STATE, 8);
     view.setUint32(STATE + 8, this.zeroWords, true);
     view.setUint32(STATE + 12, this.literalWords, true);
     const answer = calls.capvet_unpack_message(at.input, packed.length, at.pieceLimits, address(out), size,
       at.state, at.second, at.required, at.report);
-    if (answer !== OK && answer !== TRUNCATED && answer !== NO_MESSAGE) throw errorOf(answer);
+    if (answer !== OK && answer !== TRUNCATED && answer !== NO_MESSAGE) throw frameError(answer);
     const consumed = number(SECOND);
     this.rest = this.rest.subarray(consumed);
     this.taken += consumed;
@@ -156,7 +156,7 @@ export class Feed {
   }
 
   #message(raw) {
-    const message = messageOf(raw, this.#kind, this.#index, this.#offset);
+    const message = streamed(raw, this.#kind, this.#index, this.#offset);
     this.#index++;
     this.#offset = this.#source.taken;
     return message;
@@ -167,6 +167,6 @@ export class Feed {
     if (this.#held.length === 0 && !this.#source.isInside) return;
     writeLimits(this.#kind.limits);
     const answer = frameAnswer(this.#held.bytes.subarray(0, this.#held.length));
-    throw errorOf(answer === NO_MESSAGE ? TRUNCATED : answer, this.#offset);
+    throw frameError(answer === NO_MESSAGE ? TRUNCATED : answer, this.#index, this.#offset);
   }
 }

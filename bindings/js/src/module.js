@@ -5,27 +5,44 @@ const PAGE = 65536;
 const KEPT = 16 << 20;
 
 // Places, counted from the first byte that the module does not use itself. Inputs begin at INPUT, and outputs follow them.
-export const LIMITS = 0, PIECE_LIMITS = 48, REPORT = 96, REQUIRED = 192, SECOND = 200, STATE = 208, NODES = 256, INPUT = 16384;
+export const LIMITS = 0, PIECE_LIMITS = 80, REPORT = 160, REQUIRED = 288, SECOND = 296, STATE = 304, NODES = 352, INPUT = 16384;
 // How many nodes have space between NODES and INPUT, and the bytes of one.
 export const BLOCK = 256, NODE_SIZE = 56;
 
-let module, base, isReplacing = false;
+let compiledModule, base, isReplacing = false;
+
+// (so that a call before the module is loaded says so)
+const UNLOADED = new Proxy({}, { get() { throw new Error("capvet is not loaded: call init() first"); } });
 
 /** The calls of the header, by name. */
-export let calls;
+export let calls = UNLOADED;
 /** The memory from place 0 on. Both are others after `reserve`. */
-export let bytes, view;
+export let bytes = UNLOADED, view = UNLOADED;
 /** The addresses of the places. */
-export let at;
+export let at = UNLOADED;
 /** A number that changes whenever other bytes are placed at INPUT. */
 export let generation = 0;
 
-/** Compiles the module, unless that was done. */
+/** Compiles bytes, unless that was done, and takes an instance of them or of a module. */
 export async function load(source) {
-  if (module !== undefined) return;
-  const made = await WebAssembly.instantiate(source, {});
-  module = made.module;
-  use(made.instance);
+  const compiled = source instanceof WebAssembly.Module ? source : await WebAssembly.compile(source);
+  const instance = await WebAssembly.instantiate(compiled, {});
+  if (compiledModule === undefined) begin(compiled, instance);
+}
+
+/** The same at once. */
+export function loadSync(source) {
+  const compiled = source instanceof WebAssembly.Module ? source : new WebAssembly.Module(source);
+  if (compiledModule === undefined) begin(compiled, new WebAssembly.Instance(compiled, {}));
+}
+
+export function isLoaded() {
+  return compiledModule !== undefined;
+}
+
+function begin(compiled, instance) {
+  compiledModule = compiled;
+  use(instance);
 }
 
 function use(instance) {
@@ -64,7 +81,7 @@ function replaceLater() {
   isReplacing = true;
   const end = () => { isReplacing = false; };
   // (without memory for another instance this one goes on)
-  WebAssembly.instantiate(module, {}).then(use).then(end, end);
+  WebAssembly.instantiate(compiledModule, {}).then(use).then(end, end);
 }
 
 /** Copies bytes to INPUT, and reserves `capacity` bytes after them. */
@@ -92,15 +109,22 @@ export function setNumber(from, value) {
 
 /** Any bytes as a Uint8Array over the same memory, or one of a class below it. */
 export function bytesOf(data) {
-  return data instanceof Uint8Array ? data : plainBytesOf(data);
+  return data instanceof Uint8Array && !isShared(data.buffer) ? data : plainBytesOf(data);
 }
 
 /** The same as a Uint8Array that is of no class below it: what the package returns parts of. */
 export function plainBytesOf(data) {
   // (a view takes longer to make than most calls do)
-  if (data instanceof Uint8Array && Object.getPrototypeOf(data) === Uint8Array.prototype) return data;
-  if (ArrayBuffer.isView(data)) return new Uint8Array(data.buffer, data.byteOffset, data.byteLength);
-  const isShared = typeof SharedArrayBuffer !== "undefined" && data instanceof SharedArrayBuffer;
-  if (isShared || data instanceof ArrayBuffer) return new Uint8Array(data);
+  if (data instanceof Uint8Array && Object.getPrototypeOf(data) === Uint8Array.prototype && !isShared(data.buffer)) return data;
+  const isView = ArrayBuffer.isView(data), buffer = isView ? data.buffer : data;
+  if (isShared(buffer)) throw new TypeError("another thread could change shared memory after it was vetted: copy it first");
+  if (isView) return new Uint8Array(buffer, data.byteOffset, data.byteLength);
+  if (buffer instanceof ArrayBuffer) return new Uint8Array(buffer);
   throw new TypeError("the data have to be an ArrayBuffer, or a view of one such as a Uint8Array");
+}
+
+function isShared(buffer) {
+  // (the first comparison takes a third of the time of the second one, and not every page has shared memory)
+  if (Object.getPrototypeOf(Object(buffer)) === ArrayBuffer.prototype) return false;
+  return typeof SharedArrayBuffer !== "undefined" && buffer instanceof SharedArrayBuffer;
 }

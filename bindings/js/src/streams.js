@@ -1,7 +1,7 @@
 // The messages of a buffer, and of a stream.
 import { firstFrame } from "./calls.js";
 import { Feed } from "./feed.js";
-import { kindOf, messageOf } from "./messages.js";
+import { Message, kindOf, streamed } from "./message.js";
 import { plainBytesOf } from "./module.js";
 
 export function messages(data, options) {
@@ -12,9 +12,9 @@ export function messages(data, options) {
 
 function* walkMessages(input, kind) {
   for (let index = 0, offset = 0; offset < input.length; index++) {
-    const raw = firstFrame(input.subarray(offset), kind.limits);
-    yield messageOf(raw, kind, index, offset);
-    offset += raw.length;
+    const frame = firstFrame(input.subarray(offset), kind.limits);
+    yield streamed(frame, kind, index, offset);
+    offset += frame.length;
   }
 }
 
@@ -76,5 +76,20 @@ export class MessageStream {
       },
       cancel: (reason) => reader.cancel(reason),
     }, { highWaterMark: 0 });
+  }
+}
+
+export class VettedByteStream {
+  constructor({ onRefused, ...options } = {}) {
+    if (onRefused !== undefined && typeof onRefused !== "function") throw new TypeError("onRefused has to be a function");
+    const verdicts = new MessageStream(options);
+    this.writable = verdicts.writable;
+    this.readable = verdicts.readable.pipeThrough(new TransformStream({
+      transform(verdict, controller) {
+        if (verdict instanceof Message) controller.enqueue(verdict.data);
+        else if (onRefused === undefined) throw verdict;
+        else onRefused(verdict);
+      },
+    }));
   }
 }

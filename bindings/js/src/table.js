@@ -1,6 +1,8 @@
 // The table of a frame.
 
-const WORD = 8, MAX_SEGMENTS = 512;
+const WORD = 8;
+/** The most segments of a frame. */
+export const MAX_SEGMENTS = 512;
 /** The most bytes of a table. */
 export const MAX_TABLE = WORD * (MAX_SEGMENTS / 2 + 1);
 
@@ -24,4 +26,15 @@ export function frameLength(input, messageWords) {
   let words = 0;
   for (let from = 4; from <= 4 * count; from += 4) words += numberAt(input, from);
   return words > messageWords ? table : table + WORD * words;
+}
+
+/** The segments of a frame, in place. */
+export function segmentsOf(frame) {
+  const count = numberAt(frame, 0) + 1, segments = [];
+  for (let index = 0, from = WORD * Math.floor(count / 2) + WORD; index < count; index++) {
+    const size = WORD * numberAt(frame, 4 * index + 4);
+    segments.push(frame.subarray(from, from + size));
+    from += size;
+  }
+  return segments;
 }

@@ -2,7 +2,10 @@ import assert from "node:assert/strict";
 import { Readable } from "node:stream";
 import { setImmediate as turn } from "node:timers/promises";
 import { test } from "node:test";
-import { FrameError, MessageStream, Refusal, frame, messages, pack, packMessage, readMessages, vet } from "capvet";
+import {
+  FrameError, Message, MessageStream, Refusal, frame, messages, packMessage, packWords, readMessages, vet, vetPrefix,
+  VettedByteStream,
+} from "capvet";
 import { CAPABILITY, NULL_ROOT, STRUCT, all, framed, joined, sample, thrown, withBytes, word } from "./samples.mjs";
 
 const contacts = sample("contacts.bin"), many = sample("contacts-many-segments.bin");
@@ -10,15 +13,21 @@ const four = sample("stream-of-four.bin"), cycle = sample("cycle.bin");
 // (the long runs of zeros and of other bytes are longer than what is unpacked at once)
 const long = [withBytes(70000), withBytes(70000, () => 0)];
 const stream = joined(contacts, cycle, many, NULL_ROOT, CAPABILITY, ...long, STRUCT);
-const packedWhole = pack(stream), packedEach = joined(...[...messages(stream)].map((it) => packMessage(it.raw)));
+const packedWhole = packWords(stream), packedEach = joined(...[...messages(stream)].map((it) => packMessage(bytesOf(it))));
+
+/** The bytes of a message that is accepted or refused. */
+function bytesOf(verdict) {
+  return verdict instanceof Refusal ? verdict.unvetted : verdict.data;
+}
 
 /** The bytes in chunks of a size. */
 function* chunks(bytes, size) {
   for (let at = 0; at < bytes.length; at += size) yield bytes.subarray(at, at + size);
 }
 
-const hex = (bytes) => bytes && Buffer.from(bytes).toString("hex");
-const brief = ({ number, data, raw, report, refusal }) => ({ number, data: hex(data), raw: hex(raw), report, refusal: refusal?.message });
+const hex = (bytes) => Buffer.from(bytes).toString("hex");
+const brief = (it) => (
+  { number: it.number, bytes: hex(bytesOf(it)), report: it.report, message: it.message, isAccepted: it instanceof Message });
 const expected = [...messages(stream)].map(brief);
 
 test("messages of a buffer, in place", () => {
@@ -27,17 +36,16 @@ test("messages of a buffer, in place", () => {
   let offset = 0;
   for (const it of found) {
     assert.equal(it.offset, offset);
-    assert.equal(it.raw.buffer, stream.buffer);
-    offset += it.raw.length;
+    assert.equal(bytesOf(it).buffer, stream.buffer);
+    offset += bytesOf(it).length;
   }
-  assert.equal(found[1].data, null);
-  assert.equal(found[1].report, null);
-  assert.ok(found[1].refusal instanceof Refusal);
-  assert.deepEqual(found[0].report, vet(contacts));
-  assert.equal(found[0].refusal, null);
+  const [first, second] = found;
+  assert.ok(first instanceof Message && second instanceof Refusal && second instanceof Error);
+  assert.deepEqual([first.data, first.report, first.unvetted], [contacts, vet(contacts).report, undefined]);
+  assert.deepEqual([second.unvetted, second.data, second.reason, second.path], [cycle, undefined, "DepthLimit", "/p0".repeat(64)]);
   assert.deepEqual([...messages(new Uint8Array(0))], []);
-  assert.equal([...messages(sample("shared.bin"), { exclusive: true })][0].refusal.reason, "Overlap");
-  assert.equal([...messages(contacts, { depth: 5 })][0].refusal.reason, "DepthLimit");
+  assert.equal([...messages(sample("shared.bin"), { exclusive: true })][0].reason, "Overlap");
+  assert.equal([...messages(contacts, { depth: 5 })][0].reason, "DepthLimit");
 });
 
 test("messages of a buffer end where it stops being a stream", () => {
@@ -46,7 +54,7 @@ test("messages of a buffer end where it stops being a stream", () => {
   assert.equal(walk.next().value.number, 1);
   const error = thrown(() => walk.next());
   assert.ok(error instanceof FrameError);
-  assert.deepEqual([error.reason, error.required, error.offset], ["Truncated", 3144, 3160]);
+  assert.deepEqual([error.reason, error.required, error.number, error.offset], ["Truncated", 3144, 2, 3160]);
   assert.equal(thrown(() => [...messages(joined(contacts, contacts), { messageWords: 391 })]).reason, "TooLarge");
   assert.equal(thrown(() => messages(contacts, { packed: true })).constructor, TypeError);
   assert.equal(thrown(() => messages(contacts, { packed: 1 })).constructor, TypeError);
@@ -66,7 +74,7 @@ test("a buffer takes memory for one message at a time", async () => {
       if (++count === 1000) break;
       if (count % 100 === 0) await turn();
     }
-    assert.equal(vet(large, { allowTrailing: true }).length, STRUCT.length);
+    assert.equal(vetPrefix(large).message.data.length, STRUCT.length);
     assert.equal(frame(large).length, STRUCT.length);
   } finally {
     WebAssembly.Memory.prototype.grow = grow;
@@ -101,7 +109,7 @@ test("offsets count the bytes of the stream", async () => {
   let offset = 0;
   for (const it of await all(readMessages(chunks(packedEach, 100), { packed: true }))) {
     assert.equal(it.offset, offset);
-    offset += packMessage(it.raw).length;
+    offset += packMessage(bytesOf(it)).length;
   }
 });
 
@@ -153,7 +161,7 @@ test("a message comes with its last byte, whatever of the next one comes with it
           await turn();
           hand.give(joined(first.subarray(cut), second.subarray(0, part)));
           const { value } = await coming;
-          assert.deepEqual(value.raw, message);
+          assert.deepEqual(bytesOf(value), message);
           assert.equal(hand.asked, 2);
           const two = walk.next();
           await turn();
@@ -212,10 +220,10 @@ test("a packed stream that ends before the words of its last run is cut", async 
 
 test("a table above the limits ends the stream", async () => {
   for (const packed of [false, true]) {
-    const bad = joined(STRUCT, word(0, 4294967295), contacts), source = packed ? pack(bad) : bad;
+    const bad = joined(STRUCT, word(0, 4294967295), contacts), source = packed ? packWords(bad) : bad;
     const walk = readMessages([source], { packed });
     assert.equal((await walk.next()).value.number, 0);
-    await assert.rejects(walk.next(), (error) => error.reason === "TooLarge" && error.detail === 4294967295);
+    await assert.rejects(walk.next(), (error) => error.reason === "TooLarge" && error.words === 4294967295 && error.number === 1);
     assert.deepEqual(await walk.next(), { done: true, value: undefined });
   }
 });
@@ -269,6 +277,12 @@ test("a MessageStream makes no message before it is asked for, and takes no seco
   await closed;
 });
 
+test("a refusal of a stream has no stack, and one that is thrown has", async () => {
+  const [refusal] = await all(readMessages([cycle]));
+  assert.equal(refusal.stack.trim(), `Refusal: ${refusal.message}`);
+  assert.match(thrown(() => vet(cycle)).stack, /streams\.test\.mjs/);
+});
+
 test("errors and cancellation pass through a MessageStream", async () => {
   const pair = new MessageStream(), writer = pair.writable.getWriter(), reader = pair.readable.getReader();
   const write = writer.write(joined(STRUCT, word(0, 4294967295)));
@@ -287,6 +301,25 @@ test("errors and cancellation pass through a MessageStream", async () => {
   const read = broken.readable.getReader().read();
   brokenWriter.abort(fault).catch(() => {});
   await assert.rejects(read, fault);
+});
+
+test("a VettedByteStream has the bytes of accepted messages", async () => {
+  const accepted = [...messages(stream)].filter((it) => it instanceof Message).map((it) => it.data);
+  for (const [bytes, packed] of [[stream, false], [packedEach, true]]) {
+    for (const size of [7, 1000, bytes.length]) {
+      const source = () => new ReadableStream({ start(it) { for (const part of chunks(bytes, size)) it.enqueue(part); it.close(); } });
+      const refused = [], onRefused = (refusal) => refused.push(refusal);
+      assert.deepEqual(await all(source().pipeThrough(new VettedByteStream({ packed, onRefused }))), accepted);
+      assert.deepEqual(refused.map((it) => [it.number, it.reason, hex(it.unvetted)]), [[1, "DepthLimit", hex(cycle)]]);
+      // (by default nothing passes after a refused message)
+      const found = [], passed = source().pipeThrough(new VettedByteStream({ packed }));
+      await assert.rejects(async () => { for await (const it of passed) found.push(it); }, (error) => error instanceof Refusal && error.number === 1);
+      assert.deepEqual(found, [contacts]);
+    }
+  }
+  const cut = new Blob([contacts.subarray(0, 99)]).stream().pipeThrough(new VettedByteStream());
+  await assert.rejects(all(cut), (error) => error instanceof FrameError && error.reason === "Truncated");
+  for (const wrong of [{ onRefused: 1 }, { depth: "3" }, { onrefused() {} }]) assert.throws(() => new VettedByteStream(wrong), TypeError);
 });
 
 test("many streams take turns", async () => {
