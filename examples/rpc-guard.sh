@@ -1,5 +1,5 @@
 #!/bin/sh
-# A proxy before an RPC server: it passes on only messages that `capvet filter` accepts, in both directions.
+# A proxy in front of an RPC server: it passes on only messages that `capvet filter` accepts, in both directions.
 #
 #     rpc-guard.sh PORT SERVER        such as rpc-guard.sh 4000 127.0.0.1:4001
 #

@@ -46,7 +46,7 @@ static int get(const uint8_t *bytes, size_t length, const char *path, uint32_t k
                capvet_report *report) {
   capvet_limits limits = CAPVET_LIMITS_INIT;
   capvet_answer answer;
-  limits.flags = CAPVET_ALLOW_TRAILING;
+  limits.form = CAPVET_FORM_PREFIX;
   answer = capvet_get(bytes, length, &limits, path, strlen(path), node, report);
   if (answer != CAPVET_OK && answer != CAPVET_NO_NODE) return 0;
   return node->kind == CAPVET_KIND_NULL || node->kind == kind;

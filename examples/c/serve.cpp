@@ -113,7 +113,7 @@ void handle(capvet::Vetted &message) try {
 bool take(const Buffer &buffer) {
   capvet::Refusal refusal;
   auto vetted = capvet::tryVetted(buffer.bytes(), refusal, options);
-  if (auto *message = capvet::valueOf(vetted)) {
+  KJ_IF_MAYBE(message, vetted) {
     handle(*message);
     return true;
   }

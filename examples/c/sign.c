@@ -8,7 +8,7 @@
  * FILE is one message and nothing else. What is signed is the words of its canonical form, by their SHA-256. Send these words
  * with the signature:
  *
- *     capvet canon FILE | tail -c +9 > words
+ *     capvet canon FILE > copy && tail -c +9 copy > words
  *
  * The owner of the public key verifies them. Then the words are checked in place, without a table and without a copy. They are
  * one message that a reader can follow, and no other canonical words have its content.
@@ -108,16 +108,15 @@ static int is_signed(EVP_PKEY *key, const uint8_t *bytes, size_t length, const u
 
 /* Verifies the signature of these words, then checks that they are a canonical form, and returns the exit status.
  *
- * The words have no table. CAPVET_ALLOW_AMPLIFIED is needed, because structs whose fields are all default lose their words in
- * a canonical form. So the limit for the charge is lower than the default: a reader of these words does no more work. */
+ * The words have no table. They may be amplified: structs whose fields are all default lose their words in a canonical form. So the
+ * limit for the charge is lower than the default: a reader of these words does no more work. */
 static int verify_words(EVP_PKEY *key, const uint8_t *words, size_t length, const uint8_t *signature, size_t size) {
   capvet_limits limits = CAPVET_LIMITS_INIT;
   capvet_report report;
   capvet_answer answer;
   if (!is_signed(key, words, length, signature, size)) return fputs("sign: not signed by this key\n", stderr), 1;
   limits.charge = 1 << 20;
-  limits.flags = CAPVET_NO_TABLE | CAPVET_ALLOW_AMPLIFIED;
-  answer = capvet_is_canonical(words, length, &limits, &report);
+  answer = capvet_check_canonical_words(words, length, &limits, &report);
   if (answer != CAPVET_OK) return fprintf(stderr, "sign: signed, but %s\n", capvet_answer_name(answer)), 1;
   puts("verified");
   return 0;

@@ -50,7 +50,7 @@ int main(int count, char **words) {
   bytes = contents(words[1], &length);
   if (bytes == NULL) return fprintf(stderr, "vet: cannot read %s\n", words[1]), 3;
   /* The file may have several messages, so bytes may follow each. */
-  limits.flags = CAPVET_ALLOW_TRAILING;
+  limits.form = CAPVET_FORM_PREFIX;
   while (at < length) {
     capvet_report report;
     capvet_answer answer = capvet_vet(bytes + at, length - at, &limits, &report);

@@ -15,6 +15,8 @@
 
 namespace {
 
+using capnp::rpc::twoparty::Side;
+
 void print(const kj::String &line) { std::puts(line.cStr()); }
 
 void call(Calculator::Client calculator, kj::WaitScope &scope) {
@@ -51,11 +53,11 @@ int main(int count, char **words) try {
   auto io = kj::setupAsyncIo();
   auto address = io.provider->getNetwork().parseAddress(words[1]).wait(io.waitScope);
   auto stream = address->connect().wait(io.waitScope);
-  capvet::VettingStream vetting(*stream);
-  capnp::TwoPartyVatNetwork network(vetting, capnp::rpc::twoparty::Side::CLIENT);
+  capvet::VettingStream vetting(*stream, io.provider->getTimer(), Side::CLIENT);
+  capnp::TwoPartyVatNetwork network(vetting, Side::CLIENT);
   auto rpc = capnp::makeRpcClient(network);
   capnp::MallocMessageBuilder id;
-  id.initRoot<capnp::rpc::twoparty::VatId>().setSide(capnp::rpc::twoparty::Side::SERVER);
+  id.initRoot<capnp::rpc::twoparty::VatId>().setSide(Side::SERVER);
   call(rpc.bootstrap(id.getRoot<capnp::rpc::twoparty::VatId>()).castAs<Calculator>(), io.waitScope);
   return 0;
 } catch (const kj::Exception &exception) {

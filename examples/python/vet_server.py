@@ -12,20 +12,25 @@ import argparse
 import asyncio
 import signal
 import sys
-from typing import Union
+from typing import Optional
 
 import capvet
 
-PIECE = 65536
 
-
-def line(message: Union[capvet.Accepted, capvet.Refused]) -> str:
+def line(verdict: capvet.Verdict) -> str:
     """The line about a message."""
-    if message.refusal is not None:
-        return f"message {message.number}: {message.refusal}\n"
-    it = message.report
-    return (f"message {message.number}: accepted charge {it.charge} depth {it.depth} pointers {it.pointers} "
+    if isinstance(verdict, capvet.Refusal):
+        return f"message {verdict.number}: {verdict}\n"
+    it = verdict.report
+    return (f"message {verdict.number}: accepted charge {it.charge} depth {it.depth} pointers {it.pointers} "
             f"caps {it.capabilities}\n")
+
+
+async def next_of(messages: capvet.AsyncMessageReader) -> Optional[capvet.Verdict]:
+    """The next message, or None at the end. (Python 3.10 has anext)"""
+    async for verdict in messages:
+        return verdict
+    return None
 
 
 class Server:
@@ -49,19 +54,14 @@ class Server:
 
     async def answer(self, reader: asyncio.StreamReader, writer: asyncio.StreamWriter) -> None:
         """A line for each message, until the peer ends its stream or a message is refused."""
-        feed = capvet.MessageFeed(packed=self.packed, limits=self.limits)
-        clock = asyncio.get_running_loop()
-        deadline = clock.time() + self.seconds
-        while piece := await asyncio.wait_for(reader.read(PIECE), deadline - clock.time()):
-            for message in feed.feed(piece):
-                writer.write(line(message).encode())
-                # (a peer that takes no lines gets no more, and its bytes are not read)
-                await asyncio.wait_for(writer.drain(), self.seconds)
-                deadline = clock.time() + self.seconds
-                if message.refusal is not None:
-                    self.log(writer, str(message.refusal))
-                    return
-        feed.close()
+        messages = capvet.async_read_messages(reader, packed=self.packed, limits=self.limits)
+        while verdict := await asyncio.wait_for(next_of(messages), self.seconds):
+            writer.write(line(verdict).encode())
+            # (a peer that takes no lines gets no more, and its bytes are not read)
+            await asyncio.wait_for(writer.drain(), self.seconds)
+            if isinstance(verdict, capvet.Refusal):
+                self.log(writer, str(verdict))
+                return
 
     @staticmethod
     def log(writer: asyncio.StreamWriter, text: str) -> None:

@@ -37,14 +37,17 @@ func main() {
 // vet prints the line of each message of a stream, and returns the status.
 func vet(stream io.Reader) int {
 	status := 0
-	s := capvet.NewScanner(stream, capvet.Limits{})
-	for s.Scan() {
-		if refusal := s.Refusal(); refusal != nil {
-			fmt.Printf("message %d: %s\n", s.Number(), refusal.Line())
-			status = 1
-			continue
+	s := capvet.NewScanner(stream, nil)
+	for {
+		for s.Scan() {
+			fmt.Printf("message %d: %v\n", s.Number(), s.Message().Report())
 		}
-		fmt.Printf("message %d: %v\n", s.Number(), s.Report())
+		var refusal *capvet.Refusal
+		if !errors.As(s.Err(), &refusal) {
+			break
+		}
+		fmt.Printf("message %d: %s\n", refusal.Number, refusal.Line())
+		status = 1
 	}
 	err := s.Err()
 	if err == nil {

@@ -1,6 +1,6 @@
 //! Vets the messages of a file in process, and prints for each the line of `capvet vet --strict --unamplified`.
 //!
-//!     PKG_CONFIG_PATH=PREFIX/lib/pkgconfig cargo run -- FILE
+//!     cargo run -- FILE
 //!
 //! The status is 0 if all messages are accepted, 1 if one is not, 2 for a wrong command line, and 3 if the file can't be
 //! read.

@@ -1,7 +1,7 @@
 //! Vets the messages of a packed stream as they are received on standard input, and prints for each the line of
 //! `capvet vet --packed --strict --unamplified`. It holds one message, of at most 512 KiB in segments.
 //!
-//!     PKG_CONFIG_PATH=PREFIX/lib/pkgconfig cargo run --bin receive < FILE
+//!     cargo run --bin receive < FILE
 //!
 //! The status is 0 if all messages are accepted, 1 if one is not, and 3 if reading fails. Nothing is read after bytes that are
 //! no message.
@@ -10,7 +10,9 @@ use capvet::{Limits, ReadError, VetError};
 use std::io::{self, Read};
 use std::process::ExitCode;
 
-const LIMITS: Limits = Limits::DEFAULT.message_words(65_536).charge(65_536);
+const LIMITS: Limits = Limits::DEFAULT
+    .with_message_words(65_536)
+    .with_charge(65_536);
 
 fn main() -> ExitCode {
     match vet_all(io::stdin().lock()) {
@@ -29,10 +31,10 @@ fn vet_all(reader: impl Read) -> io::Result<bool> {
         all &= message.is_ok();
         match message {
             Ok(message) => println!("message {number}: {}", message.report()),
-            Err(ReadError::NotAccepted(error @ VetError::Frame(_))) => {
-                eprintln!("receive: message {number}: {error}");
-            }
-            Err(ReadError::NotAccepted(refusal)) => println!("message {number}: {refusal}"),
+            Err(ReadError::NotAccepted(it)) => match it.error {
+                VetError::Frame(error) => eprintln!("receive: message {number}: {error}"),
+                refusal => println!("message {number}: {refusal}"),
+            },
             Err(error) => return Err(error.into()),
         }
     }

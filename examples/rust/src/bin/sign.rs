@@ -1,7 +1,7 @@
 //! Passes the canonical form of a message to a command that hashes or signs it. The result is the same however the message
 //! is encoded.
 //!
-//!     PKG_CONFIG_PATH=PREFIX/lib/pkgconfig cargo run --bin sign -- FILE COMMAND..
+//!     cargo run --bin sign -- FILE COMMAND..
 //!
 //! For example `sign FILE sha256sum`, or `sign FILE openssl dgst -sha256 -sign key.pem`. FILE is one message and nothing else.
 //!
@@ -11,6 +11,7 @@
 //! the file can't be read or the command doesn't run.
 
 use capvet::Limits;
+use std::error::Error;
 use std::ffi::OsString;
 use std::io::Write;
 use std::process::{Command, ExitCode, Stdio};
@@ -32,8 +33,8 @@ fn main() -> ExitCode {
             return ExitCode::from(3);
         }
     };
-    let form = match capvet::canonical(&bytes, Limits::DEFAULT) {
-        Ok((form, _report)) => form,
+    let form = match canonical(&bytes) {
+        Ok(form) => form,
         Err(error) => {
             eprintln!("sign: {error}");
             return ExitCode::from(1);
@@ -46,6 +47,11 @@ fn main() -> ExitCode {
             ExitCode::from(3)
         }
     }
+}
+
+// The canonical form of the message that these bytes are.
+fn canonical(bytes: &[u8]) -> Result<Vec<u8>, Box<dyn Error>> {
+    Ok(capvet::vet(bytes, Limits::DEFAULT)?.canonical()?)
 }
 
 // Runs a command with these bytes as its input, and returns its status, or 3 if a signal ended it.

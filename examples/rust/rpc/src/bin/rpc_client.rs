@@ -1,6 +1,6 @@
 //! A client of rpc_server. It vets what its server sends.
 //!
-//!     PKG_CONFIG_PATH=PREFIX/lib/pkgconfig cargo run --bin rpc_client -- 127.0.0.1:PORT
+//!     cargo run --bin rpc_client -- 127.0.0.1:PORT
 //!
 //! The status is 0 if the server was reached and the calls came back.
 
@@ -26,7 +26,8 @@ async fn connected(address: &str) -> Result<(), Box<dyn Error>> {
     let stream = TcpStream::connect(address).await?;
     stream.set_nodelay(true)?;
     let (reader, writer) = stream.compat().split();
-    let vetting = VettingRead::new(reader, Limits::DEFAULT, ());
+    // (what the server begins to send has 20 seconds)
+    let vetting = VettingRead::new(reader, Limits::DEFAULT, tokio::time::sleep);
     let options = vetting.options();
     let network = VatNetwork::new(vetting, writer, Side::Client, options);
     let mut system = RpcSystem::new(Box::new(network), None);
@@ -61,7 +62,7 @@ async fn called(calculator: &calculator::Client) -> capnp::Result<()> {
     println!("received {} rows, stored {stored}", rows.len());
 
     if let Err(error) = calculator.fail_request().send().promise.await {
-        println!("failed: {}", error.description);
+        println!("{error}");
     }
     Ok(())
 }
