@@ -2,7 +2,6 @@ package main
 
 import (
 	"errors"
-	"fmt"
 	"io"
 	"net"
 	"os"
@@ -17,6 +16,8 @@ const (
 	client side = iota
 	server
 )
+
+func (s side) String() string { return [...]string{"client", "server"}[s] }
 
 // direction is a way of messages through the guard.
 type direction int
@@ -48,6 +49,24 @@ const (
 	quiet          cause = "quiet"           // it has not ended, and nothing came for a while
 )
 
+// The causes of connections that are not served.
+const (
+	manyConnections cause = "max_connections" // all places are taken
+	manyOfPeer      cause = "max_per_peer"    // all places of the peer are taken
+	overRateOfPeer  cause = "rate"            // the peer connects too often
+	badGreeting     cause = "greeting"        // its PROXY header or its handshake is wrong, or takes too long
+	noServer        cause = "connect"         // the server can't be reached
+)
+
+// isAboutMessage reports whether the guard has ended a connection for a message, or since none came.
+func (c cause) isAboutMessage() bool {
+	switch c {
+	case refused, messageTimeout, idleTimeout, noMemory:
+		return true
+	}
+	return false
+}
+
 // ending is how a direction of a connection ended.
 type ending struct {
 	cause     cause
@@ -56,17 +75,14 @@ type ending struct {
 	offset    int64  // where the next one starts: how many bytes came before it
 	err       error
 	path      string // to the pointer that is refused, if one is
+	guess     guess  // what the bytes look like, if that is another format
 }
 
 // reason returns the name of the reason of a refused message, as the program prints it.
 func (e ending) reason() string {
-	var refusal *capvet.Refusal
-	var frame *capvet.FrameError
-	switch {
-	case errors.As(e.err, &refusal):
-		return refusal.Reason.String()
-	case errors.As(e.err, &frame):
-		return frame.Reason.String()
+	var reason capvet.Reason
+	if errors.As(e.err, &reason) {
+		return reason.String()
 	}
 	return ""
 }
@@ -78,10 +94,8 @@ func (e ending) text() string {
 	switch {
 	case errors.As(e.err, &refusal):
 		return refusal.Line()
-	case errors.As(e.err, &frame) && frame.Reason == capvet.Truncated:
-		return frame.Reason.String()
 	case errors.As(e.err, &frame):
-		return fmt.Sprintf("%v %d", frame.Reason, frame.Detail)
+		return frame.Line()
 	case e.err != nil:
 		return e.err.Error()
 	}

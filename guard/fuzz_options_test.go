@@ -16,12 +16,14 @@ import (
 // says what is wrong. The collector of garbage lets the guard have all that --memory allows.
 func FuzzOptions(f *testing.F) {
 	names := []string{"--listen", "--connect", "--metrics", "--direction", "--size", "--words", "--depth", "--exclusive",
-		"--allow-nonstrict", "--allow-amplified", "--listen-packed", "--connect-packed", "--max-connections", "--max-per-peer",
+		"--allow-nonstrict", "--allow-amplified", "--listen-packed", "--connect-packed", "--max-connections", "--max-per-peer", "--dry-run",
+		"--connection-rate", "--message-rate", "--byte-rate", "--memory-per-peer", "--listen-mode", "--listen-client-name",
+		"--listen-proxy-from", "--tls-min", "--refused-folder", "--refused-bytes", "--log-rate", "--log-connections",
 		"--message-timeout", "--idle-timeout", "--connect-timeout", "--drain-timeout", "--memory", "--listen-cert", "--listen-key",
 		"--listen-client-ca", "--listen-proxy", "--connect-tls", "--connect-ca", "--connect-name", "--connect-cert", "--connect-key",
 		"--connect-proxy", "--log", "--help", "--version", "--none", "word"}
 	values := []string{"", "0", "1", "-1", "8", "256", "257", "268435457", "9999999999", "30s", "-5s", "unix:", "unix:/a", "systemd",
-		"systemd:a", "127.0.0.1:0", "::1", "none", "both", "requests", "json", "text", os.DevNull}
+		"systemd:a", "127.0.0.1:0", "::1", "none", "both", "requests", "json", "text", os.DevNull, "0660", "1.3", "10.0.0.0/8", "99999999999"}
 	// (each option with each value, and a command line that lacks an address)
 	for i := range names {
 		for j := range values {
@@ -47,15 +49,19 @@ func FuzzOptions(f *testing.F) {
 			fuzzNoRun(t, words, err)
 			return
 		}
-		if _, err := capvet.Vet(nil, o.limits); !errors.Is(err, io.EOF) || o.memory < 1<<20 || o.connectTimeout <= 0 || o.connect.network == "" ||
-			o.maxConnections < 0 || o.maxPerPeer < 0 || o.sendProxy > 2 || o.messageTimeout < 0 || o.idleTimeout < 0 || o.drainTimeout < 0 {
+		if _, err := capvet.Vet(nil, &o.limits); !errors.Is(err, capvet.ReasonNoMessage) || o.memory < 1<<20 || o.connectTimeout <= 0 || len(o.connect) == 0 ||
+			o.memoryPerPeer > o.memory || o.memoryPerPeer < 24*int64(o.limits.MessageWords) || o.maxConnections < 0 || o.maxPerPeer < 0 || o.sendProxy > 2 || o.messageTimeout < 0 || o.idleTimeout < 0 || o.drainTimeout < 0 {
 			t.Fatal(words, o)
 		}
-		if o.connectTLS.isOn && o.connectTLS.name == "" && o.connect.host() == "" {
-			t.Fatal(words, "have no name for the certificate")
+		for _, it := range o.connect {
+			if o.connectTLS.isOn && o.connectTLS.name == "" && it.host() == "" {
+				t.Fatal(words, "have no name for the certificate")
+			}
 		}
 		defer debug.SetMemoryLimit(debug.SetMemoryLimit(-1))
-		if err := bound(o); err != nil || o.maxConnections == 0 || debug.SetMemoryLimit(-1) < o.memory {
+		log := newLogger(io.Discard, false, 0)
+		defer log.close()
+		if err := bound(o, log); err != nil || o.maxConnections == 0 || debug.SetMemoryLimit(-1) < o.memory {
 			t.Fatal(words, err, o.maxConnections, debug.SetMemoryLimit(-1))
 		}
 	})

@@ -15,8 +15,17 @@ import (
 	"time"
 )
 
-// fuzzPatience is how long a run waits for what has to come. (Go ends a fuzz target that takes 10 seconds)
-const fuzzPatience = 5 * time.Second
+// fuzzPatience is how long a run waits for what has to come. (Go ends a fuzz target that takes 10 seconds, but not one that it only runs
+// over its seeds)
+var fuzzPatience = testPatience
+
+func init() {
+	for _, word := range os.Args {
+		if strings.HasPrefix(word, "-test.fuzz=") || strings.HasPrefix(word, "-test.fuzzworker") {
+			fuzzPatience = 8 * time.Second
+		}
+	}
+}
 
 // fuzzPlace is what is at the address of a guard before it begins.
 type fuzzPlace int
@@ -127,7 +136,22 @@ func (r *fuzzRun) words() []string {
 	add(r.place == systemdPlace, "--listen=systemd:none")
 	missing := strings.NewReplacer("CERT", w.cert, "KEY", w.key, "none", w.path("none")).Replace(fuzzMissing[r.missing])
 	add(r.place == missingPlace, strings.Fields(missing)...)
-	return words
+	return lastOnes(words)
+}
+
+// lastOnes returns options without those that are given again later.
+func lastOnes(words []string) (last []string) {
+	name := func(word string) string { return strings.SplitN(word, "=", 2)[0] }
+	for i, word := range words {
+		isLast := true
+		for _, later := range words[i+1:] {
+			isLast = isLast && name(later) != name(word)
+		}
+		if isLast {
+			last = append(last, word)
+		}
+	}
+	return last
 }
 
 // isReached reports whether the guard takes the client, and so connects to the server.
@@ -242,8 +266,9 @@ func (r *fuzzRun) checkTaken(t *testing.T) {
 		}
 		conn.Close()
 	}
-	if !strings.HasPrefix(r.out.String(), "capvet-guard: ") || strings.Contains(r.out.String(), "listening") {
-		t.Fatal(r.out.String())
+	log := r.out.String()
+	if strings.HasPrefix(log, "{") != r.isJSON || !strings.Contains(log, "fault") || strings.Contains(log, "listening") {
+		t.Fatal(log)
 	}
 }
 

@@ -88,8 +88,8 @@ func fuzzWords(data []byte, folder string) []string {
 		}
 		return fmt.Sprint(n)
 	}
-	words := []string{"--listen", "unix:" + filepath.Join(folder, "guard"), "--connect", "unix:" + filepath.Join(folder, "backend"),
-		"--size", number(data[4:], 1<<23), "--words", number(data[8:], 1<<16), "--depth", number([]byte{data[2], 0}, 64)}
+	words := []string{"--listen=unix:" + filepath.Join(folder, "guard"), "--connect=unix:" + filepath.Join(folder, "backend"),
+		"--size=" + number(data[4:], 1<<23), "--words=" + number(data[8:], 1<<16), "--depth=" + number([]byte{data[2], 0}, 64)}
 	for i, word := range []string{"--log=json", "--allow-nonstrict", "--allow-amplified", "--connect-proxy=1", "--connect-proxy=2",
 		"--listen-proxy", "--max-per-peer=1"} {
 		if data[0]>>i&1 != 0 {
@@ -101,7 +101,7 @@ func fuzzWords(data []byte, folder string) []string {
 			words = append(words, word)
 		}
 	}
-	return words
+	return lastOnes(words)
 }
 
 // FuzzServe sends a stream through a guard to a server that sends back what it gets. The messages before the first refused one
@@ -120,11 +120,12 @@ func FuzzServe(f *testing.F) {
 		}
 		o.maxConnections, o.connectTimeout = 7-int(data[12]>>5), 10*time.Second
 		out := &output{}
-		g, err := newGuard(o, &logger{out: out, isJSON: o.log == "json"})
+		lines := newLogger(out, o.log == "json", o.logRate)
+		g, err := newGuard(o, lines)
 		if err != nil {
 			t.Fatal(err)
 		}
-		listener, err := o.listen.open()
+		listener, err := o.listen.open(0)
 		if err != nil {
 			t.Fatal(err)
 		}
@@ -146,6 +147,8 @@ func FuzzServe(f *testing.F) {
 			}
 		}
 		g.drain(testPatience, nil)
+		lines.close()
+		<-lines.ended
 		log := out.String()
 		if data[14]%16 == 15 {
 			var line string
@@ -194,7 +197,7 @@ type served struct {
 }
 
 func fuzzServed(t *testing.T, g *guard, o *options, peer, log string, it served) {
-	if used := g.memory.used.Load(); used != 0 || len(g.sessions) != 0 || len(g.peers.count) != 0 {
+	if used := g.memory.used.Load(); used != 0 || len(g.sessions) != 0 || len(g.peers.known) != 0 {
 		t.Fatal(used, "bytes, sessions or peers are left")
 	}
 	if o.maxConnections == 0 || peer == "" {
@@ -236,7 +239,7 @@ func fuzzSame(o *options, all, replies []byte) bool {
 	if !o.packed[client] {
 		return bytes.Equal(all, replies)
 	}
-	plain, err := capvet.AppendUnpacked(nil, replies, 1<<28)
+	plain, err := capvet.AppendUnpackedWords(nil, replies, 1<<28)
 	return err == nil && bytes.Equal(padding(all), padding(plain))
 }
 
@@ -244,7 +247,7 @@ func fuzzSame(o *options, all, replies []byte) bool {
 func padding(b []byte) []byte {
 	var messages [][]byte
 	for len(b) > 0 {
-		n, err := capvet.FrameLength(b, capvet.Limits{MessageWords: 1 << 28})
+		n, err := capvet.FrameLength(b, &capvet.Limits{MessageWords: 1 << 28})
 		if err != nil {
 			break
 		}

@@ -3,6 +3,7 @@ package main
 import (
 	"bufio"
 	"bytes"
+	"context"
 	"errors"
 	"flag"
 	"io"
@@ -105,24 +106,20 @@ type passing struct {
 
 // scanned returns what should be passed on of a stream, by a Scanner over all of it.
 func scanned(b []byte, o *options) passing {
-	s := capvet.NewScanner(bytes.NewReader(b), o.limits)
+	s := capvet.NewScanner(bytes.NewReader(b), &o.limits)
 	if o.packed[client] {
-		s = capvet.NewPackedScanner(bytes.NewReader(b), o.limits)
-	}
-	if o.exclusive {
-		s.Exclusive()
+		s = capvet.NewPackedScanner(bytes.NewReader(b), &o.limits)
 	}
 	p := passing{cause: closed}
 	for s.Scan() {
-		if s.Refusal() != nil {
-			p.cause, p.err, p.offset = refused, s.Refusal(), s.Offset()
-			p.path = s.Refusal().Path(s.Raw(), o.limits)
-			return p
-		}
-		p.messages = append(p.messages, append([]byte(nil), s.Bytes()...))
+		p.messages = append(p.messages, append([]byte(nil), s.Message().Bytes()...))
 	}
 	if p.offset = s.Offset(); s.Err() != nil {
 		p.cause, p.err = refused, s.Err()
+	}
+	var refusal *capvet.Refusal
+	if errors.As(p.err, &refusal) {
+		p.path = refusal.Path()
 	}
 	return p
 }
@@ -142,7 +139,7 @@ func fuzzOptions(data []byte) *options {
 		o.limits.Depth = 256
 	}
 	o.limits.AllowNonstrict, o.limits.AllowAmplified = data[0]&2 != 0, data[0]&4 != 0
-	o.exclusive, o.packed = data[1]&8 != 0, [2]bool{data[1]&16 != 0, data[1]&32 != 0}
+	o.limits.Exclusive, o.packed = data[1]&8 != 0, [2]bool{data[1]&16 != 0, data[1]&32 != 0}
 	if data[1]&64 != 0 {
 		o.memory = 5000
 	}
@@ -150,7 +147,14 @@ func fuzzOptions(data []byte) *options {
 	return o
 }
 
-var fuzzMetrics = newMetrics(&budget{})
+var fuzzMetrics = newMetrics(&guard{options: &options{}, log: &logger{}})
+
+// fuzzSession is a session between these ends, with the options of an input.
+func fuzzSession(o *options, from, to half) *session {
+	g := &guard{options: o, metrics: fuzzMetrics, memory: budget{most: o.memory}, running: context.Background(), log: &logger{}}
+	c := &caller{conn: from, source: fuzzAddresses[0], peer: &peer{memory: budget{most: o.memory, whole: &g.memory}}}
+	return newSession(g, c, to, nil)
+}
 
 // FuzzPump passes a stream through one direction of a session. Exactly the messages before the first refused one arrive, plain
 // or packed, and the ending is about that one. No byte of the budget is in use afterwards.
@@ -168,8 +172,7 @@ func FuzzPump(f *testing.F) {
 		if data[15]%4 == 3 {
 			to.writes = 1 + int(data[15]>>2)
 		}
-		g := &guard{options: o, metrics: fuzzMetrics, memory: budget{most: o.memory}}
-		s := &session{guard: g, ends: [2]half{from, to}}
+		s := fuzzSession(o, from, to)
 		s.activity.touch()
 		switch data[15] % 16 {
 		case 4:
@@ -184,7 +187,7 @@ func FuzzPump(f *testing.F) {
 			to.stop = s.stop
 		}
 		e := s.pump(requests).run()
-		if used := g.memory.used.Load(); used != 0 {
+		if used := s.guard.memory.used.Load() + s.caller.peer.memory.used.Load(); used != 0 {
 			t.Fatal(used, "bytes of the budget are in use")
 		}
 		if !o.vetted[requests] {
@@ -205,7 +208,7 @@ func arrived(t *testing.T, o *options, out []byte) []byte {
 	if !o.packed[server] {
 		return out
 	}
-	plain, err := capvet.AppendUnpacked(nil, out, 1<<28)
+	plain, err := capvet.AppendUnpackedWords(nil, out, 1<<28)
 	if err != nil {
 		t.Fatal(err)
 	}
@@ -236,7 +239,7 @@ func compareEnding(t *testing.T, o *options, want passing, end error, e ending, 
 		all = padded(want.messages)
 	}
 	var cut *capvet.FrameError
-	isCut := errors.As(want.err, &cut) && cut.Reason == capvet.Truncated
+	isCut := errors.As(want.err, &cut) && cut.Reason == capvet.ReasonTruncated
 	if isBefore(o, e) {
 		if !bytes.HasPrefix(all, got) || end != io.EOF && e.err == end && !bytes.Equal(all, got) {
 			t.Fatal("other bytes arrived before the end")
@@ -299,7 +302,8 @@ func FuzzGreeting(f *testing.F) {
 	f.Fuzz(func(t *testing.T, data []byte, state uint32) {
 		conn := &fuzzConn{state: uint64(state), rest: data, end: io.EOF}
 		g := &guard{options: &options{listenProxy: true, sendProxy: 1 + int(state%2)}}
-		c, err := g.introduced(conn)
+		c := &caller{conn: conn, source: conn.RemoteAddr(), target: conn.LocalAddr()}
+		isAnnounced, err := g.introduced(context.Background(), c)
 		if err != nil {
 			return
 		}
@@ -324,26 +328,27 @@ func FuzzGreeting(f *testing.F) {
 		if end := headerEnd(data, version); !bytes.Equal(got, data[end:]) {
 			t.Fatalf("want %q after the header, got %q", data[end:], got)
 		}
-		fuzzSentOn(t, g, c)
+		fuzzSentOn(t, g, c, isAnnounced)
 	})
 }
 
 // fuzzSentOn compares the header that is sent to the server with the addresses of a client. Over TCP they are always sent, but for
 // addresses of two families in version 1, which has no form for them.
-func fuzzSentOn(t *testing.T, g *guard, c caller) {
+func fuzzSentOn(t *testing.T, g *guard, c *caller, isAnnounced bool) {
 	from, isTCP := c.source.(*net.TCPAddr)
-	peer, counted := prefixOf(c.source), &peers{most: 1}
-	if isTCP && !peer.Contains(from.AddrPort().Addr().Unmap()) {
+	if isTCP && !prefixOf(c.source).Contains(from.AddrPort().Addr().Unmap()) {
 		t.Fatal("a peer without an address: ", name(from))
 	}
-	if !counted.enter(peer) || counted.enter(peer) == isTCP {
+	counted, key := &peers{options: &options{maxPerPeer: 1}, memory: &budget{}}, keyOf(c.source, isAnnounced)
+	first, why := counted.enter(key)
+	if _, again := counted.enter(key); why != "" || (again == "") != (key == "") || (key == "") == (isTCP || isAnnounced) {
 		t.Fatal("a peer has a connection too many, or none: ", name(c.source))
 	}
-	if counted.leave(peer); len(counted.count) > 0 {
-		t.Fatal("a peer is left: ", counted.count)
+	if counted.leave(first); len(counted.known) > 0 {
+		t.Fatal("a peer is left: ", counted.known)
 	}
 	to := &fuzzConn{}
-	if err := g.introduce(to, c); err != nil {
+	if err := g.introduce(to, c.source, c.target); err != nil {
 		if isTCP {
 			t.Fatal(err, c.source, c.target)
 		}

@@ -1,7 +1,10 @@
 package main
 
 import (
+	"context"
+	"crypto/tls"
 	"errors"
+	"fmt"
 	"net"
 	"sync"
 	"sync/atomic"
@@ -18,8 +21,12 @@ type guard struct {
 	metrics *metrics
 	log     *logger
 	peers   peers
+	servers servers
+	folder  *folder // of refused messages, or nil
 
-	open       atomic.Int64 // connections that are served
+	running    context.Context // until connections are cut
+	cut        context.CancelFunc
+	open       atomic.Int64 // connections that have a place
 	isDraining atomic.Bool
 	lock       sync.Mutex
 	sessions   map[*session]bool
@@ -27,10 +34,24 @@ type guard struct {
 }
 
 func newGuard(o *options, log *logger) (*guard, error) {
-	g := &guard{options: o, log: log, memory: budget{most: o.memory}, secrets: secrets{files: *o},
-		peers: peers{most: o.maxPerPeer}, sessions: map[*session]bool{}}
-	g.metrics = newMetrics(&g.memory)
-	return g, g.secrets.load()
+	g := &guard{options: o, log: log, memory: budget{most: o.memory}, secrets: secrets{files: *o, log: log}, sessions: map[*session]bool{}}
+	g.running, g.cut = context.WithCancel(context.Background())
+	g.peers = peers{options: o, memory: &g.memory}
+	if err := g.secrets.load(); err != nil {
+		return nil, err
+	}
+	if o.refusedFolder != "" {
+		var err error
+		if g.folder, err = openFolder(o, &g.memory, log); err != nil {
+			return nil, fmt.Errorf("--refused-folder: %w", err)
+		}
+	}
+	g.metrics = newMetrics(g)
+	g.servers = servers{guard: g}
+	for _, at := range o.connect {
+		g.servers.all = append(g.servers.all, &backend{address: at, failures: g.metrics.unreached.WithLabelValues(at.text())})
+	}
+	return g, nil
 }
 
 // serve serves the clients of a listener until it is closed. If no connection can be accepted, as when no descriptor is
@@ -54,93 +75,140 @@ func (g *guard) serve(listener net.Listener) {
 			continue
 		}
 		pause = least
-		g.admit(conn)
+		g.admit(conn.(half))
 	}
 }
 
 // admit serves a connection, unless there are too many.
-func (g *guard) admit(conn net.Conn) {
+func (g *guard) admit(conn half) {
 	if g.open.Add(1) > int64(g.options.maxConnections) {
 		g.open.Add(-1)
-		g.metrics.rejected.WithLabelValues("max_connections").Inc()
+		source := conn.RemoteAddr()
 		conn.Close()
+		g.reject(manyConnections, source, nil)
 		return
 	}
 	g.all.Add(1)
 	go func() {
 		defer g.all.Done()
 		defer g.open.Add(-1)
-		g.handle(conn.(half))
+		c := &caller{conn: conn, source: conn.RemoteAddr(), target: conn.LocalAddr(), stage: g.metrics.stages}
+		why, err := g.attend(c)
+		conn.Close()
+		c.enter(gone)
+		if why != "" {
+			g.reject(why, c.source, err)
+		}
 	}()
 }
 
-// caller is a client that has connected, with the addresses of its connection.
-type caller struct {
-	conn           half
-	source, target net.Addr
+// reject notes why a client is not served.
+func (g *guard) reject(why cause, source net.Addr, err error) {
+	g.metrics.rejected.WithLabelValues(string(why)).Inc()
+	g.log.reject(string(why), name(source), err)
 }
 
-// handle greets a client, connects to the server, and passes on what both send.
-func (g *guard) handle(conn half) {
-	defer conn.Close()
-	conn.SetDeadline(time.Now().Add(g.options.connectTimeout))
-	c, err := g.introduced(conn)
+// attend greets a client, connects to the server, and passes on what both send. If it doesn't, it returns why.
+func (g *guard) attend(c *caller) (why cause, err error) {
+	c.enter(greeting)
+	why, err = g.greet(c)
+	if c.peer != nil {
+		defer g.peers.leave(c.peer)
+	}
+	if why != "" {
+		return why, err
+	}
+	c.enter(connecting)
+	conn, at, err := g.reach(c)
 	if err != nil {
-		g.reject("greeting", conn, err)
-		return
+		return noServer, err
 	}
-	peer := prefixOf(c.source)
-	if !g.peers.enter(peer) {
-		g.reject("max_per_peer", conn, nil)
-		return
+	c.enter(serving)
+	g.pass(newSession(g, c, conn, at))
+	return "", nil
+}
+
+// greet reads what comes before the messages of a client, and counts it as a connection of its peer. If the client is not to be
+// served, it returns why.
+func (g *guard) greet(c *caller) (why cause, err error) {
+	limit, cancel := context.WithTimeout(g.running, g.options.connectTimeout)
+	defer cancel()
+	isAnnounced, err := g.introduced(limit, c)
+	if err != nil {
+		return badGreeting, err
 	}
-	defer g.peers.leave(peer)
-	if c.conn, err = secured(c.conn, g.secrets.current[client].Load(), g.options.connectTimeout); err != nil {
-		g.reject("greeting", conn, err)
-		return
+	if c.peer, why = g.peers.enter(keyOf(c.source, isAnnounced)); why != "" {
+		return why, nil
 	}
-	conn.SetDeadline(time.Time{})
-	backend, err := dialled(g.options.connect, g.secrets.current[server].Load(), g.options.connectTimeout, func(to net.Conn) error {
-		return g.introduce(to, c)
+	if err := g.secure(limit, c); err != nil {
+		return badGreeting, err
+	}
+	return "", nil
+}
+
+// reach connects to a server for a client.
+func (g *guard) reach(c *caller) (half, *backend, error) {
+	limit, cancel := context.WithTimeout(g.running, g.options.connectTimeout)
+	defer cancel()
+	return g.servers.dial(limit, func(to net.Conn) error { return g.introduce(to, c.source, c.target) })
+}
+
+var errNotTrusted = errors.New("the proxy is not of --listen-proxy-from")
+
+// introduced reads the addresses of a client: those of the PROXY protocol, if it is to come by a proxy. It reports whether the
+// proxy has announced them.
+func (g *guard) introduced(ctx context.Context, c *caller) (isAnnounced bool, err error) {
+	o := g.options
+	if !o.listenProxy {
+		return false, nil
+	}
+	if len(o.proxies) > 0 && !contains(o.proxies, c.source) {
+		return false, errNotTrusted
+	}
+	var header *proxyproto.Header
+	err = within(ctx, c.conn, func() (err error) {
+		c.conn, header, err = introduced(c.conn)
+		return err
 	})
 	if err != nil {
-		g.reject("connect", conn, err)
-		return
+		return false, err
 	}
-	g.pass(&session{guard: g, peer: name(c.source), ends: [2]half{c.conn, backend}})
-}
-
-// reject notes why a client is not served.
-func (g *guard) reject(why string, conn net.Conn, err error) {
-	g.metrics.rejected.WithLabelValues(why).Inc()
-	if err != nil {
-		g.log.note(why, conn.RemoteAddr().String(), err)
-	}
-}
-
-// introduced returns a client with its addresses: those of the PROXY protocol, if it is to come by a proxy.
-func (g *guard) introduced(conn half) (caller, error) {
-	c := caller{conn, conn.RemoteAddr(), conn.LocalAddr()}
-	if !g.options.listenProxy {
-		return c, nil
-	}
-	next, header, err := introduced(conn)
-	if err != nil {
-		return c, err
-	}
-	c.conn = next
 	if header.Command == proxyproto.PROXY && header.SourceAddr != nil {
 		c.source, c.target = header.SourceAddr, header.DestinationAddr
+		return true, nil
 	}
-	return c, nil
+	return false, nil
 }
 
-// introduce sends the header of the PROXY protocol to the server, if it is to have one.
-func (g *guard) introduce(to net.Conn, c caller) error {
+// secure makes a TLS connection of a client's, if there is a configuration.
+func (g *guard) secure(ctx context.Context, c *caller) error {
+	config := g.secrets.current[client].Load()
+	if config == nil {
+		return nil
+	}
+	secret, err := g.shaken(ctx, client, c.conn, func(to net.Conn) *tls.Conn { return tls.Server(to, config) })
+	if err != nil {
+		return err
+	}
+	c.conn, c.certificate = secret, short(nameOf(secret.ConnectionState()))
+	return nil
+}
+
+// shaken makes a TLS connection and counts its handshake.
+func (g *guard) shaken(ctx context.Context, at side, conn half, over func(net.Conn) *tls.Conn) (*tls.Conn, error) {
+	begin := now()
+	secret, err := secured(ctx, conn, over)
+	g.metrics.shaken(at, now()-begin, err)
+	return secret, err
+}
+
+// introduce sends the header of the PROXY protocol to the server, if it is to have one. Without addresses it is about the guard
+// itself.
+func (g *guard) introduce(to net.Conn, source, target net.Addr) error {
 	if g.options.sendProxy == 0 {
 		return nil
 	}
-	_, err := headerOf(g.options.sendProxy, c.source, c.target).WriteTo(to)
+	_, err := headerOf(g.options.sendProxy, source, target).WriteTo(to)
 	return err
 }
 
@@ -155,20 +223,19 @@ func name(a net.Addr) string {
 // pass runs a session and notes how it ended.
 func (g *guard) pass(s *session) {
 	g.metrics.accepted.Inc()
-	g.metrics.connections.Inc()
-	defer g.metrics.connections.Dec()
 	g.keep(s, true)
+	defer g.keep(s, false)
 	e := s.run()
-	g.keep(s, false)
+	s.shut()
 	g.metrics.ended.WithLabelValues(string(e.cause)).Inc()
-	switch e.cause {
-	case refused:
-		g.metrics.refusals.WithLabelValues(e.direction.String(), e.reason()).Inc()
-		g.log.ended(s.peer, e)
-	case messageTimeout, idleTimeout, noMemory:
-		g.log.ended(s.peer, e)
+	switch {
+	case e.cause.isAboutMessage(), e.cause == stopped:
+		s.report(e)
 	}
-	s.close()
+	if g.options.logConnections {
+		g.log.connection(s.record(e))
+	}
+	s.linger(e)
 }
 
 // keep notes that a session runs, or no longer does.
@@ -182,7 +249,8 @@ func (g *guard) keep(s *session, runs bool) {
 	delete(g.sessions, s)
 }
 
-// drain waits until all connections have ended, and ends those that are left after a while, or once `now` is closed.
+// drain waits until all connections have ended. It ends those that are left after a while, if that is not 0, or once `now` is
+// closed.
 func (g *guard) drain(wait time.Duration, now <-chan struct{}) {
 	g.isDraining.Store(true)
 	ended := make(chan struct{})
@@ -190,14 +258,21 @@ func (g *guard) drain(wait time.Duration, now <-chan struct{}) {
 		g.all.Wait()
 		close(ended)
 	}()
-	timer := time.NewTimer(wait)
-	defer timer.Stop()
+	var late <-chan time.Time
+	if wait > 0 {
+		timer := time.NewTimer(wait)
+		defer timer.Stop()
+		late = timer.C
+	}
 	select {
 	case <-ended:
+		g.cut()
 		return
-	case <-timer.C:
+	case <-late:
 	case <-now:
 	}
+	g.cut()
+	g.log.note("cut", "", fmt.Errorf("%d connections", g.open.Load()))
 	for {
 		g.stopAll()
 		select {

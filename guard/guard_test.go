@@ -4,6 +4,7 @@ import (
 	"bytes"
 	"io"
 	"net"
+	"strconv"
 	"strings"
 	"testing"
 	"time"
@@ -49,7 +50,7 @@ func TestAMessageAndAPart(t *testing.T) {
 			if !packed[side] {
 				return message
 			}
-			b, err := capvet.AppendPackedMessage(nil, message, capvet.Limits{})
+			b, err := capvet.AppendPackedMessage(nil, message, nil)
 			if err != nil {
 				t.Fatal(err)
 			}
@@ -120,6 +121,45 @@ func TestRefusals(t *testing.T) {
 	gets(t, "another connection, back", other, empty)
 }
 
+// The log says what the first bytes of a direction may be, if they are of another format, or in the other form.
+func TestGuesses(t *testing.T) {
+	const isPacked = true
+	packed := mustPackWords(t, shared)
+	for _, row := range []struct {
+		isPacked bool
+		sent     []byte
+		said     string
+	}{
+		{!isPacked, []byte("\x1f\x8b\x08\x00\x00\x00\x00\x00"), "TooManySegments 559904 offset 0 guess gzip\n"},
+		{!isPacked, []byte("\x16\x03\x01\x02\x00\x01\x00\x01"), "TooManySegments 33620759 offset 0 guess tls\n"},
+		{!isPacked, []byte("\x14\x03\x05\x02\x00\x01\x00\x01"), "TooManySegments 33882901 offset 0\n"},
+		{!isPacked, []byte("GET / HTTP/1.1\r\n"), "TooManySegments 542393672 offset 0 guess text\n"},
+		{!isPacked, []byte("0AAP0AAP"), "TooManySegments 1346453809 offset 0 guess packed\n"},
+		{!isPacked, packed, " offset 0 guess packed\n"},
+		{!isPacked, []byte("\x10\x00\x01\x01\x00\x00\x00\x00"), "TooManySegments 16842769 offset 0\n"},
+		{!isPacked, join(empty, []byte("GET / HTTP/1.1\r\n")), "TooManySegments 542393672 offset 16\n"},
+		{isPacked, []byte("\x1f\x8b\x08\x00\x00\x00\x00\x00"), "TooManySegments 2188 offset 0 guess gzip\n"},
+		{isPacked, []byte("\x16\x03\x01\x02\x00\x01\x00\x01"), "TooManySegments 66305 offset 0 guess tls\n"},
+		{isPacked, shared, "refused NoRoot at 0:0 pointers 0 offset 0 guess unpacked\n"},
+		{isPacked, join(packed, []byte{0, 0}), "refused NoRoot at 0:0 pointers 0 offset " + strconv.Itoa(len(packed)) + "\n"},
+	} {
+		var words []string
+		if row.isPacked {
+			words = []string{"--listen-packed"}
+		}
+		r := newRig(t, words...)
+		client, server := r.pair()
+		go sends(client, row.sent)
+		io.Copy(io.Discard, server)
+		r.logs(row.said, client.LocalAddr().String())
+	}
+	r := newRig(t, "--log", "json")
+	client, server := r.pair()
+	go sends(client, packed)
+	io.Copy(io.Discard, server)
+	r.logs(`"guess":"packed"`, client.LocalAddr().String())
+}
+
 // A stream that is cut inside a message ends both directions, and nothing of the message arrives.
 func TestCutMessages(t *testing.T) {
 	for _, words := range [][]string{nil, {"--listen-packed", "--connect-packed"}} {
@@ -128,7 +168,7 @@ func TestCutMessages(t *testing.T) {
 			client, server := r.pair()
 			first, part := empty, empty[:cut]
 			if words != nil {
-				packed := capvet.AppendPacked(nil, shared)
+				packed := mustPackWords(t, shared)
 				first, part = packed, packed[:cut%len(packed)]
 				sends(client, first)
 				gets(t, "a message", server, mustPack(t, shared))
@@ -146,9 +186,18 @@ func TestCutMessages(t *testing.T) {
 	}
 }
 
+func mustPackWords(t *testing.T, words []byte) []byte {
+	t.Helper()
+	b, err := capvet.AppendPackedWords(nil, words)
+	if err != nil {
+		t.Fatal(err)
+	}
+	return b
+}
+
 func mustPack(t *testing.T, message []byte) []byte {
 	t.Helper()
-	b, err := capvet.AppendPackedMessage(nil, message, capvet.Limits{})
+	b, err := capvet.AppendPackedMessage(nil, message, nil)
 	if err != nil {
 		t.Fatal(err)
 	}
@@ -207,7 +256,7 @@ func TestPackedSides(t *testing.T) {
 	messages := [][]byte{shared, large(20000), empty, large(200000), shared}
 	for _, words := range [][]string{{"--listen-packed"}, {"--connect-packed"}, {"--listen-packed", "--connect-packed", "--exclusive"}} {
 		r := newRig(t, words...)
-		if r.guard.options.exclusive {
+		if r.guard.options.limits.Exclusive {
 			messages = [][]byte{large(20000), empty, large(2000)}
 		}
 		client, server := r.pair()
@@ -217,7 +266,7 @@ func TestPackedSides(t *testing.T) {
 		}{{client, server, 0, 1}, {server, client, 1, 0}} {
 			sent, want := join(messages...), join(messages...)
 			if r.guard.options.packed[way.sent] {
-				sent = capvet.AppendPacked(nil, sent)
+				sent = mustPackWords(t, sent)
 			}
 			if r.guard.options.packed[way.come] {
 				want = nil
@@ -234,7 +283,7 @@ func TestPackedSides(t *testing.T) {
 			}
 		}
 		if r.guard.options.packed[0] {
-			sends(client, capvet.AppendPacked(nil, cycle))
+			sends(client, mustPackWords(t, cycle))
 		} else {
 			sends(client, cycle)
 		}
@@ -244,42 +293,69 @@ func TestPackedSides(t *testing.T) {
 	}
 }
 
-func TestTimeouts(t *testing.T) {
-	r := newRig(t, "--message-timeout", "300ms", "--idle-timeout", "900ms")
+// A message that comes a byte at a time ends at its time. (With all of its bytes it would take longer than this test waits)
+func TestTimeoutsOfMessages(t *testing.T) {
+	r := newRig(t, "--message-timeout", "300ms")
 	slow, server := r.pair()
-	begin := time.Now()
-	for i := range empty {
-		if _, err := slow.Write(empty[i : i+1]); err != nil {
-			break
+	message := large(5000)
+	go func() {
+		for i := range message {
+			if _, err := slow.Write(message[i : i+1]); err != nil {
+				return
+			}
+			time.Sleep(50 * time.Millisecond)
 		}
-		time.Sleep(50 * time.Millisecond)
-	}
+	}()
 	ends(t, "a slow message", server, nil)
-	if took := time.Since(begin); took > 2*time.Second {
-		t.Error(took)
-	}
 	r.logs("requests message 0: message_timeout offset 0")
+}
 
+// An idle connection ends at its time, and not before. Replies alone keep one. The machine may stall for as long as a connection may be
+// idle, and so there are tries with more time.
+func TestTimeoutsOfIdleConnections(t *testing.T) {
+	for _, limit := range []time.Duration{900 * time.Millisecond, 4 * time.Second, 30 * time.Second} {
+		if idleBesideBusy(t, limit) {
+			return
+		}
+		t.Log("a busy connection has ended, with a limit of", limit)
+	}
+	t.Error("busy connections end")
+}
+
+// idleBesideBusy reports whether a connection with many replies is kept until idle ones beside it have ended.
+func idleBesideBusy(t *testing.T, limit time.Duration) bool {
+	begin := time.Now()
+	r := newRig(t, "--idle-timeout", limit.String())
 	idle, idleServer := r.pair()
 	busy, busyServer := r.pair()
-	begin = time.Now()
+	over, sent := make(chan bool), make(chan int)
 	go func() {
-		for time.Since(begin) < 2*time.Second {
+		for n := 0; ; n++ {
+			select {
+			case <-over:
+				sent <- n
+				return
+			default:
+			}
 			sends(busyServer, empty)
-			time.Sleep(100 * time.Millisecond)
+			time.Sleep(limit / 20)
 		}
-		busyServer.Close()
+	}()
+	got := make(chan int)
+	go func() {
+		all, _ := io.ReadAll(busy)
+		got <- len(all)
 	}()
 	ends(t, "an idle client", idle, nil)
 	ends(t, "an idle server", idleServer, nil)
-	if took := time.Since(begin); took < 800*time.Millisecond || took > 1900*time.Millisecond {
-		t.Error(took)
-	}
-	// (replies alone keep a connection)
-	if got, _ := io.ReadAll(busy); len(got) < 12*len(empty) {
-		t.Error(len(got))
+	if took := time.Since(begin); took < limit {
+		t.Error(took, "of", limit)
 	}
 	r.logs(idle.LocalAddr().String(), "idle_timeout")
+	close(over)
+	n := <-sent
+	busyServer.Close()
+	return <-got == n*len(empty)
 }
 
 // A peer that reads nothing is idle too, though the other one sends.
@@ -325,7 +401,7 @@ func TestLimitsOfConnections(t *testing.T) {
 
 // Claims take no memory, and messages no more than the budget.
 func TestMemory(t *testing.T) {
-	r := newRig(t, "--memory", "2097152")
+	r := newSmallRig(t, 2097152)
 	claim := []byte{0, 0, 0, 0, 0, 0, 128, 0}
 	for i := 0; i < 50; i++ {
 		client, _ := r.pair()
@@ -350,7 +426,7 @@ func TestMemory(t *testing.T) {
 // Packed messages, and those that are packed, are within the budget too.
 func TestMemoryOfPackedMessages(t *testing.T) {
 	for _, words := range [][]string{{"--listen-packed"}, {"--connect-packed"}, {"--listen-packed", "--connect-packed"}} {
-		r := newRig(t, append(words, "--memory", "3000000")...)
+		r := newSmallRig(t, 3000000, words...)
 		isPacked := r.guard.options.packed[0]
 		send := func(conn net.Conn, message []byte) {
 			if isPacked {
@@ -374,7 +450,7 @@ func TestMemoryOfPackedMessages(t *testing.T) {
 		gets(t, "a message within the budget", server, want)
 	}
 	// (2 packed bytes claim 2 KiB of zeros, and 32 KiB of them a message of 64 MiB)
-	r := newRig(t, "--listen-packed", "--memory", "3000000")
+	r := newSmallRig(t, 3000000, "--listen-packed")
 	client, server := r.pair()
 	zeros := append([]byte{0x40, 0x80, 0, 0}, bytes.Repeat([]byte{0, 255}, 32768)...)
 	go sends(client, zeros)
@@ -410,14 +486,27 @@ func TestDrain(t *testing.T) {
 	sends(client, empty)
 	gets(t, "a request", server, empty)
 	r.listener.Close()
-	drained := make(chan bool)
+	now, drained := make(chan struct{}), make(chan bool)
 	go func() {
-		r.guard.drain(400*time.Millisecond, nil)
+		r.guard.drain(time.Hour, now)
 		drained <- true
 	}()
 	until(t, "it drains", r.guard.isDraining.Load)
 	sends(client, empty)
 	gets(t, "a request while it drains", server, empty)
+	close(now)
 	<-drained
+	ends(t, "a connection that is cut", client, nil)
+
+	r = newRig(t)
+	client, server = r.pair()
+	sends(client, empty)
+	gets(t, "a request", server, empty)
+	r.listener.Close()
+	begin := time.Now()
+	r.guard.drain(400*time.Millisecond, nil)
+	if took := time.Since(begin); took < 400*time.Millisecond {
+		t.Error(took)
+	}
 	ends(t, "a connection that is left", client, nil)
 }

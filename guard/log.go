@@ -1,89 +1,125 @@
 package main
 
 import (
-	"encoding/json"
-	"errors"
 	"fmt"
 	"io"
-	"sync"
+	"sync/atomic"
 	"time"
-
-	"capvet.invalid/capvet"
 )
 
-// record is a line of the log about a connection that the guard ended, or about the guard itself.
-type record struct {
-	Time      string  `json:"time"`
-	Event     string  `json:"event"`
-	Peer      string  `json:"peer,omitempty"`
-	Direction string  `json:"direction,omitempty"`
-	Message   *uint64 `json:"message,omitempty"`
-	Reason    string  `json:"reason,omitempty"`
-	Place     string  `json:"place,omitempty"`
-	Pointers  *uint64 `json:"pointers,omitempty"`
-	Path      string  `json:"path,omitempty"`
-	Offset    *int64  `json:"offset,omitempty"`
-	Text      string  `json:"text,omitempty"`
-}
+const (
+	// queued is how many lines of the log wait for its reader.
+	queued = 1024
+	// lastWords is how long the end of the guard waits for the reader of the log.
+	lastWords = time.Second
+)
 
-// logger writes records, each in one write.
+// loss is why a line of the log is dropped.
+type loss int
+
+const (
+	overRate  loss = iota // there are more lines a second than --log-rate
+	queueFull             // the reader of the log is too slow
+)
+
+func (l loss) String() string { return [...]string{"rate", "queue"}[l] }
+
+// logger writes records, each in one write. A connection never waits for the reader of the log: lines wait in a queue. A
+// line that is too much is dropped and counted.
 type logger struct {
-	lock   sync.Mutex
-	out    io.Writer
-	isJSON bool
+	isJSON  bool
+	rate    bucket // of lines about connections
+	lines   chan string
+	closing chan struct{}
+	ended   chan struct{}
+	dropped [2]atomic.Int64 // by the loss
+	said    int64           // how many of them a line has been about
 }
 
-// ended writes why the guard ended a connection.
-func (l *logger) ended(peer string, e ending) {
-	r := record{Event: string(e.cause), Peer: peer, Direction: e.direction.String(), Message: &e.message, Offset: &e.offset,
-		Reason: e.reason(), Path: e.path, Text: e.text()}
-	var refusal *capvet.Refusal
-	if errors.As(e.err, &refusal) {
-		r.Place, r.Pointers = refusal.Position.String(), &refusal.Pointers
+// newLogger returns a logger that writes at most so many lines about connections in a second, or all if rate is 0.
+func newLogger(out io.Writer, isJSON bool, rate int64) *logger {
+	l := &logger{isJSON: isJSON, rate: bucket{rate: rate}, lines: make(chan string, queued), closing: make(chan struct{}),
+		ended: make(chan struct{})}
+	go l.run(out)
+	return l
+}
+
+// close writes the lines that wait. It gives up if nobody reads them.
+func (l *logger) close() {
+	close(l.closing)
+	select {
+	case <-l.ended:
+	case <-time.After(lastWords):
+	}
+}
+
+// run writes lines until the logger is closed.
+func (l *logger) run(out io.Writer) {
+	defer close(l.ended)
+	tick := time.NewTicker(time.Second)
+	defer tick.Stop()
+	for {
+		select {
+		case line := <-l.lines:
+			io.WriteString(out, line)
+		case <-tick.C:
+			l.sayDropped(out)
+		case <-l.closing:
+			for len(l.lines) > 0 {
+				io.WriteString(out, <-l.lines)
+			}
+			l.sayDropped(out)
+			return
+		}
+	}
+}
+
+// sayDropped writes how many lines were dropped since it last did so.
+func (l *logger) sayDropped(out io.Writer) {
+	all := l.dropped[overRate].Load() + l.dropped[queueFull].Load()
+	if all > l.said {
+		io.WriteString(out, l.format(record{Event: "dropped", Text: fmt.Sprintf("%d lines of the log", all-l.said)}))
+		l.said = all
+	}
+}
+
+// message writes why the guard ended a connection, or would end it: the words are about a message.
+func (l *logger) message(peer string, e ending) { l.connection(aboutMessage(peer, e)) }
+
+// text returns the line that message writes.
+func (l *logger) text(peer string, e ending) string { return l.format(aboutMessage(peer, e)) }
+
+// connection writes a line about a connection, unless there are too many of them.
+func (l *logger) connection(r record) {
+	if !l.rate.allow(1) {
+		l.dropped[overRate].Add(1)
+		return
 	}
 	l.write(r)
 }
 
-// note writes a line that is about no message.
-func (l *logger) note(event, peer string, err error) {
-	r := record{Event: event, Peer: peer}
-	if err != nil {
-		r.Text = err.Error()
+// reject writes why a client is not served.
+func (l *logger) reject(event, peer string, err error) {
+	l.connection(record{Event: event, Peer: peer, Text: textOf(err)})
+}
+
+// note writes a line about the guard itself.
+func (l *logger) note(event, address string, err error) {
+	l.write(record{Event: event, Address: address, Text: textOf(err)})
+}
+
+// textOf returns the text of an error, or none if there is no error.
+func textOf(err error) string {
+	if err == nil {
+		return ""
 	}
-	l.write(r)
+	return short(err.Error())
 }
 
 func (l *logger) write(r record) {
-	r.Time = time.Now().UTC().Format(time.RFC3339)
-	line := r.line()
-	if l.isJSON {
-		b, err := json.Marshal(r)
-		if err != nil {
-			return
-		}
-		line = string(b)
+	select {
+	case l.lines <- l.format(r):
+	default:
+		l.dropped[queueFull].Add(1)
 	}
-	l.lock.Lock()
-	defer l.lock.Unlock()
-	io.WriteString(l.out, line+"\n")
-}
-
-// line returns the record as text: "message N: " and the words of the program follow the peer and the direction.
-func (r record) line() string {
-	line := "capvet-guard: " + r.Time
-	if r.Peer != "" {
-		line += " " + r.Peer
-	}
-	if r.Direction != "" {
-		line += fmt.Sprintf(" %s message %d: %s offset %d", r.Direction, *r.Message, r.Text, *r.Offset)
-		if r.Path != "" {
-			line += " path " + r.Path
-		}
-		return line
-	}
-	line += " " + r.Event
-	if r.Text != "" {
-		line += ": " + r.Text
-	}
-	return line
 }

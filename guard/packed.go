@@ -10,7 +10,7 @@ import (
 
 // packer writes accepted messages in packed form, each by itself.
 type packer struct {
-	limits capvet.Limits
+	limits *capvet.Limits
 	memory *budget
 	packed []byte
 }
@@ -57,11 +57,12 @@ type unpacker struct {
 	direction direction
 	vetter    vetter
 	packer    *packer // nil if the receiver takes plain messages
-	metrics   *directionMetrics
 	scanner   *capvet.Scanner
 	memory    *budget
-	used      int   // bytes of the budget that the scanner uses
-	cause     cause // why the last read ended the stream
+	used      int    // bytes of the budget that the scanner uses
+	waiting   []byte // messages that are to be written together
+	count     int    // how many
+	cause     cause  // why the last read ended the stream
 	inside    bool
 	ready     time.Time // when the last bytes came that the scanner asked for, or when it began
 }
@@ -82,35 +83,91 @@ func (u *unpacker) change(bytes int) bool {
 }
 
 func (u *unpacker) run() ending {
-	u.scanner.Bound(u.change)
+	u.scanner.SetBound(u.change)
 	defer func() { u.memory.give(u.used) }()
-	end := ending{cause: "", direction: u.direction}
+	end := ending{direction: u.direction}
 	for end.cause == "" && u.scan() {
-		if refusal := u.scanner.Refusal(); refusal != nil {
-			end.cause, end.err, end.path = refused, refusal, u.vetter.path(u.scanner.Raw(), refusal)
-			break
+		var refusal *capvet.Refusal
+		if errors.As(u.scanner.Err(), &refusal) {
+			end = u.refuse(refusal)
+			continue
 		}
-		end.cause, end.err = u.deliver(u.scanner.Bytes())
+		end.cause, end.err = u.deliver(u.scanner.Message().Bytes())
 	}
-	end.message, end.offset = uint64(u.scanner.Number()), u.scanner.Offset()
 	if end.cause == "" {
 		end.cause, end.err = u.ended(u.scanner.Err())
+		end = u.at(end)
+		if end.cause == refused {
+			u.link.session.guard.folder.keep(u.link.session, end, nil)
+		}
 	}
+	// (what comes before the end arrives, whatever the end is)
+	if cause, err := u.flush(); cause != "" {
+		end.cause, end.err = cause, err
+	}
+	return u.at(end)
+}
+
+// at returns an ending with the place of the message that was scanned.
+func (u *unpacker) at(end ending) ending {
+	end.direction, end.message, end.offset = u.direction, uint64(u.scanner.Number()), u.scanner.Offset()
+	end.guess = guessOf(end.err, end.message, true)
 	return end
 }
 
-// scan scans the next message, and notes how long it took from its last bytes to the verdict.
+// refuse returns the ending for a refused message. A dry run passes it on.
+func (u *unpacker) refuse(refusal *capvet.Refusal) ending {
+	s, frame := u.link.session, refusal.Unvetted()
+	end := u.at(ending{cause: refused, err: refusal, path: u.vetter.path(refusal)})
+	s.guard.folder.keep(s, end, frame)
+	if !s.isTrial() {
+		return end
+	}
+	s.report(end)
+	cause, err := u.deliver(frame)
+	return ending{cause: cause, err: err}
+}
+
+// scan scans the next message, accepted or refused, and notes how long it took from its last bytes to the verdict.
 func (u *unpacker) scan() bool {
 	u.ready = time.Now()
-	found := u.scanner.Scan()
+	var refusal *capvet.Refusal
+	found := u.scanner.Scan() || errors.As(u.scanner.Err(), &refusal)
 	if found {
-		u.metrics.vetSeconds.Observe(time.Since(u.ready).Seconds())
+		u.vetter.metrics.vetSeconds.Observe(time.Since(u.ready).Seconds())
 	}
 	return found
 }
 
-// deliver passes on an accepted message and counts it.
+// deliver passes on a message. Small ones are written once no other one is whole, since a write takes longer than a message.
 func (u *unpacker) deliver(b []byte) (cause, error) {
+	if len(u.waiting)+len(b) > ample {
+		if cause, err := u.flush(); cause != "" {
+			return cause, err
+		}
+	}
+	u.inside = false
+	if len(b) > ample {
+		return u.write(b, 1)
+	}
+	u.waiting = append(u.waiting, b...)
+	u.count++
+	return "", nil
+}
+
+// flush writes the messages that wait.
+func (u *unpacker) flush() (cause, error) {
+	if u.count == 0 {
+		return "", nil
+	}
+	b, count := u.waiting, u.count
+	u.waiting, u.count = u.waiting[:0], 0
+	return u.write(b, count)
+}
+
+// write writes messages and counts them.
+func (u *unpacker) write(b []byte, count int) (cause, error) {
+	u.link.session.await(u.direction, count, len(b))
 	write := u.link.write
 	if u.packer != nil {
 		write = func(b []byte) (cause, error) { return u.packer.deliver(b, u.link.write) }
@@ -118,9 +175,7 @@ func (u *unpacker) deliver(b []byte) (cause, error) {
 	if cause, err := write(b); cause != "" {
 		return cause, err
 	}
-	u.metrics.messages.Inc()
-	u.metrics.bytes.Add(float64(len(b)))
-	u.inside = false
+	u.link.session.count(u.direction, count, len(b))
 	return "", nil
 }
 
@@ -134,6 +189,8 @@ func (u *unpacker) ended(err error) (cause, error) {
 		return refused, err
 	case err == capvet.ErrNoSpace:
 		return noMemory, nil
+	case err == errEnded:
+		return u.cause, nil
 	}
 	return u.cause, err
 }
@@ -143,6 +200,13 @@ var errEnded = errors.New("the connection ends")
 
 // Read reads for the scanner.
 func (u *unpacker) Read(b []byte) (int, error) {
+	if cause, err := u.flush(); cause != "" {
+		if err == nil {
+			err = errEnded
+		}
+		u.cause = cause
+		return 0, err
+	}
 	if inside := u.scanner.Inside(); inside != u.inside {
 		u.inside = inside
 		u.link.start()

@@ -1,10 +1,13 @@
 package main
 
 import (
+	"context"
 	"io"
 	"net"
 	"os"
 	"path/filepath"
+	"runtime/debug"
+	"strconv"
 	"strings"
 	"testing"
 )
@@ -52,6 +55,48 @@ func TestBuffers(t *testing.T) {
 	}
 }
 
+// resident returns the bytes of memory that this process has.
+func resident(t *testing.T) int64 {
+	t.Helper()
+	text, err := os.ReadFile("/proc/self/statm")
+	if err != nil {
+		t.Fatal(err)
+	}
+	pages, err := strconv.ParseInt(strings.Fields(string(text))[1], 10, 64)
+	if err != nil {
+		t.Fatal(err)
+	}
+	return pages * int64(os.Getpagesize())
+}
+
+// A large buffer that grows keeps what it holds. What it no longer needs is free at once, whatever the collector does.
+func TestLargeBuffers(t *testing.T) {
+	const most = 64 << 20
+	defer debug.SetGCPercent(debug.SetGCPercent(-1))
+	b, before := newBuffer(&budget{most: 2 * most}), resident(t)
+	for b.length < most {
+		free := b.free()
+		for i := range free {
+			free[i] = byte((b.length + i) * 7 >> 3)
+		}
+		if b.length = len(b.bytes); !b.fit(most) && b.length < most {
+			t.Fatal(b.length)
+		}
+	}
+	for i, it := range b.held() {
+		if it != byte(i*7>>3) {
+			t.Fatal(i, it)
+		}
+	}
+	if used := resident(t) - before; used > most+most/8 {
+		t.Error(used, "bytes for a buffer of", most)
+	}
+	b.close()
+	if used := resident(t) - before; used > most/8 || b.budget.used.Load() != 0 {
+		t.Error(used, "bytes are left")
+	}
+}
+
 // The header that the server gets for one of a client's. Without a text there is none: the client is not served.
 func TestHeadersForServers(t *testing.T) {
 	const version2 = "\r\n\r\n\x00\r\nQUIT\n"
@@ -71,9 +116,10 @@ func TestHeadersForServers(t *testing.T) {
 		for version, want := range []string{row.one, row.two} {
 			g := &guard{options: &options{listenProxy: true, sendProxy: version + 1}}
 			got := &fuzzConn{}
-			c, err := g.introduced(&fuzzConn{state: 1, rest: []byte(row.from), end: io.EOF})
+			c := &caller{conn: &fuzzConn{state: 1, rest: []byte(row.from), end: io.EOF}}
+			_, err := g.introduced(context.Background(), c)
 			if err == nil {
-				err = g.introduce(got, c)
+				err = g.introduce(got, c.source, c.target)
 			}
 			if (err == nil) != (want != "") || string(got.out) != want {
 				t.Errorf("%q became %q, and not %q: %v", row.from, got.out, want, err)
@@ -83,32 +129,67 @@ func TestHeadersForServers(t *testing.T) {
 }
 
 func TestPeers(t *testing.T) {
-	p := peers{most: 2}
-	at := func(host string) net.Addr { return &net.TCPAddr{IP: net.ParseIP(host), Port: 1} }
-	one, same, other := prefixOf(at("2001:db8::1")), prefixOf(at("2001:db8::2")), prefixOf(at("2001:db8:0:1::1"))
-	if one != same || one == other || prefixOf(at("10.0.0.1")) == prefixOf(at("10.0.0.2")) ||
-		prefixOf(at("::ffff:10.0.0.1")) != prefixOf(at("10.0.0.1")) {
+	o := &options{maxPerPeer: 2, memory: 1000, memoryPerPeer: 400}
+	p := peers{options: o, memory: &budget{most: o.memory}}
+	at := func(host string) string { return keyOf(&net.TCPAddr{IP: net.ParseIP(host), Port: 1}, false) }
+	one, same, other := at("2001:db8::1"), at("2001:db8::2"), at("2001:db8:0:1::1")
+	if one != same || one == other || at("10.0.0.1") == at("10.0.0.2") || at("::ffff:10.0.0.1") != at("10.0.0.1") {
 		t.Error(one, same, other)
 	}
-	if !p.enter(one) || !p.enter(same) || p.enter(one) || !p.enter(other) {
-		t.Error(p.count)
-	}
-	p.leave(one)
-	if !p.enter(one) || p.enter(one) {
-		t.Error(p.count)
-	}
-	unix := prefixOf(&net.UnixAddr{})
-	for i := 0; i < 9; i++ {
-		if !p.enter(unix) {
-			t.Error(i)
+	enters := func(key string, want cause) *peer {
+		t.Helper()
+		it, why := p.enter(key)
+		if why != want {
+			t.Error(key, why)
 		}
-		p.leave(unix)
+		return it
 	}
-	p.leave(one)
-	p.leave(one)
-	p.leave(other)
-	if len(p.count) != 0 {
-		t.Error(p.count)
+	first, second := enters(one, ""), enters(same, "")
+	enters(one, manyOfPeer)
+	third := enters(other, "")
+	if first != second || first == third || !first.memory.take(400) || second.memory.take(1) || !third.memory.take(400) || p.memory.used.Load() != 800 {
+		t.Error(first, second, third, p.memory.used.Load())
+	}
+	first.memory.give(400)
+	p.leave(first)
+	enters(one, "")
+	enters(one, manyOfPeer)
+	// (nobody says whose connections those of a Unix socket are, but for a proxy)
+	for i := 0; i < 9; i++ {
+		p.leave(enters(keyOf(&net.UnixAddr{Name: "/a"}, false), ""))
+	}
+	proxied := keyOf(&net.UnixAddr{Name: "/a"}, true)
+	fourth := enters(proxied, "")
+	enters(keyOf(&net.UnixAddr{Name: "/b"}, true), "")
+	enters(proxied, manyOfPeer)
+	for _, it := range []*peer{first, second, third, fourth, fourth} {
+		p.leave(it)
+	}
+	if len(p.known) != 0 {
+		t.Error(p.known)
+	}
+}
+
+// A peer may connect so often in a second, also if it closes its connections. It is forgotten once that no longer counts.
+func TestRateOfConnections(t *testing.T) {
+	p := peers{options: &options{connectionRate: 5}, memory: &budget{}}
+	const tries = 400
+	served, begin := 0, now()
+	for i := 0; i < tries; i++ {
+		if it, why := p.enter("peer"); why == "" {
+			served++
+			p.leave(it)
+		} else if why != overRateOfPeer {
+			t.Error(why)
+		}
+	}
+	// (a second's worth comes at once, and five with each second that a busy machine takes)
+	if most := 6 + int(5*(now()-begin).Seconds()); served < 5 || served > most || len(p.known) != 1 {
+		t.Error(served, most, p.known)
+	}
+	p.known["peer"].connections.full, p.swept = now(), now()-2*burst
+	if it, why := p.enter("other"); why != "" || len(p.known) != 1 {
+		t.Error(it, why, p.known)
 	}
 }
 
@@ -135,16 +216,15 @@ func TestAddresses(t *testing.T) {
 func TestUnixSockets(t *testing.T) {
 	nothingLeft(t)
 	at := address{"unix", filepath.Join(t.TempDir(), "socket")}
-	first, err := at.open()
+	first, err := at.open(0)
 	if err != nil {
 		t.Fatal(err)
 	}
-	if _, err := at.open(); err == nil || !strings.Contains(err.Error(), "in use") {
+	if _, err := at.open(0); err == nil || !strings.Contains(err.Error(), "in use") {
 		t.Error(err)
 	}
-	first.(*net.UnixListener).SetUnlinkOnClose(false)
-	first.Close()
-	second, err := at.open()
+	first.(*socketFile).UnixListener.Close()
+	second, err := at.open(0)
 	if err != nil {
 		t.Fatal("a socket that nobody serves: ", err)
 	}
@@ -152,10 +232,10 @@ func TestUnixSockets(t *testing.T) {
 	if err := os.WriteFile(at.place, nil, 0o600); err != nil {
 		t.Fatal(err)
 	}
-	if _, err := at.open(); err == nil {
+	if _, err := at.open(0); err == nil {
 		t.Error("a file is replaced")
 	}
-	if _, err := (address{"systemd", ""}).open(); err == nil {
+	if _, err := (address{"systemd", ""}).open(0); err == nil {
 		t.Error("no socket of systemd")
 	}
 }
@@ -163,7 +243,7 @@ func TestUnixSockets(t *testing.T) {
 func TestCommandLines(t *testing.T) {
 	both := []string{"--listen", ":1", "--connect", ":2"}
 	o, err := parse(both)
-	if err != nil || o.vetted != [2]bool{true, true} || o.limits.Depth != 64 || o.memory != 1<<30 {
+	if err != nil || o.vetted != [2]bool{true, true} || o.limits.Depth != 64 || o.memory != 1<<30 || o.memoryPerPeer != 1<<28 {
 		t.Error(o, err)
 	}
 	for _, words := range [][]string{
@@ -180,6 +260,38 @@ func TestCommandLines(t *testing.T) {
 		if o, err := parse(words); err == nil {
 			t.Error(words, o)
 		}
+	}
+}
+
+func TestWrongCommandLines(t *testing.T) {
+	both := []string{"--listen", ":1", "--connect", ":2"}
+	for _, words := range [][]string{
+		append(both, "--listen", ":3"), append(both, "--dry-run", "--dry-run"), append(both, "--connect", "127.0.0.1:99999"),
+		append(both, "--connect", "127.0.0.1:"), append(both, "--connect", "127.0.0.1:0"), append(both, "--listen-mode", "0660"),
+		append(both, "--listen-mode", "9"), append(both, "--tls-min", "1.1"), append(both, "--listen-client-name", "a"),
+		append(both, "--listen-proxy-from", "10.0.0.0/8"), append(both, "--listen-proxy", "--listen-proxy-from", "a"),
+		{"--listen", "unix:/a", "--connect", ":1", "--listen-proxy", "--listen-proxy-from", "10.0.0.1"},
+		append(both, "--message-rate", "-1"), append(both, "--log-rate", "-1"), append(both, "--refused-bytes", "1"),
+		append(both, "--memory", "201326591"), append(both, "--memory-per-peer", "201326591"), append(both, "--memory-per-peer", "1073741825"),
+		append(both, "--size", "131072", "--memory", "3145727"),
+	} {
+		if o, err := parse(words); err == nil {
+			t.Error(words, o)
+		}
+	}
+	for words, want := range map[string]string{
+		"--no": "option not defined: --no", "--listen": "an option needs an argument: --listen",
+		"--listen :1 --listen :2":          `invalid value ":2" for --listen: it is given twice`,
+		"--size 5 --message-words 6":       `invalid value "6" for --message-words: it is given twice`,
+		"--listen :1 --connect unix:a --x": "option not defined: --x",
+	} {
+		if _, err := parse(strings.Fields(words)); err == nil || err.Error() != want {
+			t.Errorf("%s: %v", words, err)
+		}
+	}
+	o, err := parse([]string{"--listen", "unix:/a", "--connect", ":2", "--connect", "unix:/b", "--size", "131072", "--memory", "12582912"})
+	if err != nil || len(o.connect) != 2 || o.memoryPerPeer != 3145728 {
+		t.Error(o, err)
 	}
 	for _, word := range []string{"--help", "-h", "-help"} {
 		if o, err := parse([]string{word}); err != nil || !o.isHelp {

@@ -16,8 +16,11 @@ import (
 	"github.com/prometheus/client_golang/prometheus/testutil"
 )
 
-// patience is how long a test waits for what has to come.
-const testPatience = 20 * time.Second
+// testPatience is how long a test waits for what has to come. Only a hang exceeds it, however busy the machine is.
+const testPatience = 2 * time.Minute
+
+// patient are options for clients and servers that a busy machine runs slowly.
+var patient = map[string]string{"--message-timeout": "10m", "--connect-timeout": "10m"}
 
 var (
 	// empty is a struct without words, and cycle a struct whose pointer leads back to itself.
@@ -61,7 +64,7 @@ func (o *output) String() string {
 	return o.text.String()
 }
 
-// rig is a guard before a server that the test plays.
+// rig is a guard in front of a server that the test plays.
 type rig struct {
 	t        *testing.T
 	guard    *guard
@@ -70,15 +73,22 @@ type rig struct {
 	log      *output
 }
 
+// eventually waits for something, and reports whether it holds.
+func eventually(holds func() bool) bool {
+	for deadline := time.Now().Add(testPatience); time.Now().Before(deadline); time.Sleep(5 * time.Millisecond) {
+		if holds() {
+			return true
+		}
+	}
+	return false
+}
+
 // until waits for something that has to hold.
 func until(t *testing.T, what string, holds func() bool) {
 	t.Helper()
-	for deadline := time.Now().Add(testPatience); time.Now().Before(deadline); time.Sleep(5 * time.Millisecond) {
-		if holds() {
-			return
-		}
+	if !eventually(holds) {
+		t.Error("never: " + what)
 	}
-	t.Error("never: " + what)
 }
 
 // descriptors returns how many descriptors are open.
@@ -103,29 +113,51 @@ func nothingLeft(t *testing.T) {
 // newRig starts a guard with options.
 func newRig(t *testing.T, words ...string) *rig {
 	t.Helper()
+	return newSmallRig(t, 0, words...)
+}
+
+// newSmallRig starts a guard whose buffers have so many bytes, also less than --size needs, or the default if most is 0.
+func newSmallRig(t *testing.T, most int64, words ...string) *rig {
+	t.Helper()
 	nothingLeft(t)
 	backend, err := net.Listen("tcp", "127.0.0.1:0")
 	if err != nil {
 		t.Fatal(err)
 	}
-	return rigBefore(t, backend, backend.Addr().String(), words...)
+	return rigBefore(t, most, backend, backend.Addr().String(), words...)
 }
 
 // rigBefore starts a guard before a listener.
-func rigBefore(t *testing.T, backend net.Listener, connect string, words ...string) *rig {
+func rigBefore(t *testing.T, most int64, backend net.Listener, connect string, words ...string) *rig {
 	t.Helper()
-	o, err := parse(append([]string{"--listen", "127.0.0.1:0", "--connect", connect}, words...))
+	both := []string{"--listen", "127.0.0.1:0", "--connect", connect}
+	if len(words) > 0 && words[0] == "--listen" {
+		both = both[2:]
+	}
+	both = append(both, words...)
+	for option, value := range patient {
+		if !strings.Contains(strings.Join(words, " "), option) {
+			both = append(both, option, value)
+		}
+	}
+	o, err := parse(both)
 	if err != nil {
 		t.Fatal(err)
 	}
-	if err := bound(o); err != nil {
-		t.Fatal(err)
+	if most > 0 {
+		o.memory, o.memoryPerPeer = most, most
 	}
 	r := &rig{t: t, backend: backend, log: &output{}}
-	if r.guard, err = newGuard(o, &logger{out: r.log, isJSON: o.log == "json"}); err != nil {
+	lines := newLogger(r.log, o.log == "json", o.logRate)
+	t.Cleanup(lines.close)
+	if err := bound(o, lines); err != nil {
 		t.Fatal(err)
 	}
-	if r.listener, err = o.listen.open(); err != nil {
+	if r.guard, err = newGuard(o, lines); err != nil {
+		t.Fatal(err)
+	}
+	t.Cleanup(r.guard.folder.close)
+	if r.listener, err = r.guard.listen(); err != nil {
 		t.Fatal(err)
 	}
 	go r.guard.serve(r.listener)
@@ -196,20 +228,25 @@ func sends(conn io.Writer, b []byte) { conn.Write(b) }
 // logs checks that a line with all these words comes.
 func (r *rig) logs(words ...string) {
 	r.t.Helper()
-	until(r.t, "a line with "+strings.Join(words, ", ")+" in "+r.log.String(), func() bool {
-		for _, line := range strings.SplitAfter(r.log.String(), "\n") {
-			found := 0
-			for _, word := range words {
-				if strings.Contains(line, word) {
-					found++
-				}
-			}
-			if found == len(words) {
-				return true
+	if !eventually(func() bool { return r.hasLine(words) }) {
+		r.t.Errorf("never: a line with %q in %s", words, r.log)
+	}
+}
+
+// hasLine reports whether a line of the log has all these words.
+func (r *rig) hasLine(words []string) bool {
+	for _, line := range strings.SplitAfter(r.log.String(), "\n") {
+		found := 0
+		for _, word := range words {
+			if strings.Contains(line, word) {
+				found++
 			}
 		}
-		return false
-	})
+		if found == len(words) {
+			return true
+		}
+	}
+	return false
 }
 
 // counts checks that a metric gets to a number.

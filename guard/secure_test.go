@@ -43,13 +43,25 @@ func newAuthority(t testing.TB) *authority {
 // sign writes a certificate for 127.0.0.1 and its key, and returns both files.
 func (a *authority) sign(name string) (cert, key string) {
 	a.t.Helper()
+	return a.signUntil(name, time.Now().Add(time.Hour))
+}
+
+// expired writes a certificate that is no longer valid.
+func (a *authority) expired() (cert string) {
+	a.t.Helper()
+	cert, _ = a.signUntil("expired", time.Now().Add(-time.Minute))
+	return cert
+}
+
+func (a *authority) signUntil(name string, end time.Time) (cert, key string) {
+	a.t.Helper()
 	private, err := ecdsa.GenerateKey(elliptic.P256(), rand.Reader)
 	if err != nil {
 		a.t.Fatal(err)
 	}
 	serial, _ := rand.Int(rand.Reader, big.NewInt(1<<62))
 	form := &x509.Certificate{SerialNumber: serial, Subject: pkix.Name{CommonName: name}, NotBefore: time.Now().Add(-time.Hour),
-		NotAfter: time.Now().Add(time.Hour), IPAddresses: []net.IP{net.IPv4(127, 0, 0, 1)}, DNSNames: []string{"localhost"},
+		NotAfter: end, IPAddresses: []net.IP{net.IPv4(127, 0, 0, 1)}, DNSNames: []string{"localhost"},
 		ExtKeyUsage: []x509.ExtKeyUsage{x509.ExtKeyUsageServerAuth, x509.ExtKeyUsageClientAuth}}
 	parent, signer := a.certificate, a.key
 	if parent == nil {
@@ -240,7 +252,7 @@ func TestOverUnixSockets(t *testing.T) {
 	if err != nil {
 		t.Fatal(err)
 	}
-	r := rigBefore(t, backend, "unix:"+path, "--listen", "unix:"+path+".guard", "--max-per-peer", "1")
+	r := rigBefore(t, 0, backend, "unix:"+path, "--listen", "unix:"+path+".guard", "--max-per-peer", "1")
 	for i := 0; i < 2; i++ {
 		client, err := net.Dial("unix", path+".guard")
 		if err != nil {
@@ -264,17 +276,17 @@ func TestMetricsAndHealth(t *testing.T) {
 	client, server := r.pair()
 	sends(client, join(shared, cycle))
 	ends(t, "the server", server, shared)
-	r.counts("connections", r.guard.metrics.connections, 0)
+	r.counts("connections", r.guard.metrics.stages[serving], 0)
 	get := func(path string) (int, string) {
 		w := httptest.NewRecorder()
-		r.guard.metrics.handler(&r.guard.isDraining).ServeHTTP(w, httptest.NewRequest("GET", path, nil))
+		r.guard.handler().ServeHTTP(w, httptest.NewRequest("GET", path, nil))
 		text, _ := io.ReadAll(w.Result().Body)
 		return w.Code, string(text)
 	}
 	status, text := get("/metrics")
 	for _, line := range []string{
 		`capvet_guard_messages_total{direction="requests"} 1`, `capvet_guard_messages_total{direction="replies"} 0`,
-		`capvet_guard_bytes_total{direction="requests"} 40`, `capvet_guard_connections 0`, `capvet_guard_connections_total 1`,
+		`capvet_guard_bytes_total{direction="requests"} 40`, `capvet_guard_connections{state="open"} 0`, `capvet_guard_connections_total 1`,
 		`capvet_guard_refusals_total{direction="requests",reason="DepthLimit"} 1`, `capvet_guard_buffer_bytes 0`,
 		`capvet_guard_connections_ended_total{cause="refused"} 1`, `capvet_guard_vet_seconds_count{direction="requests"} `,
 		`go_goroutines `, `process_open_fds `, `process_resident_memory_bytes `,
@@ -313,5 +325,5 @@ func TestLogAsJSON(t *testing.T) {
 	sends(server, join(shared, cycle))
 	ends(t, "the client", client, shared)
 	r.logs(`"event":"refused"`, `"peer":"`+client.LocalAddr().String()+`"`, `"direction":"replies"`, `"message":1`,
-		`"reason":"DepthLimit"`, `"place":"0:0"`, `"pointers":65`, `"path":"`+strings.Repeat("/p0", 64)+`"`, `"offset":40`)
+		`"reason":"DepthLimit"`, `"segment":0`, `"word":0`, `"pointer":65`, `"path":"`+strings.Repeat("/p0", 64)+`"`, `"offset":40`)
 }
