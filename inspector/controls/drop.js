@@ -1,7 +1,7 @@
 // Files that are dropped on the page.
 
-/** Calls `openFile` with a file that is dropped. */
-export function takeFiles(openFile) {
+/** Calls `openFiles` with files that are dropped. */
+export function takeFiles(openFiles) {
   let dragged = 0;
   const hasFile = (event) => event.dataTransfer?.types.includes("Files");
   const shade = (isOver) => document.body.classList.toggle("dropping", isOver);
@@ -13,6 +13,6 @@ export function takeFiles(openFile) {
     event.preventDefault();
     dragged = 0;
     shade(false);
-    openFile(event.dataTransfer.files[0]);
+    openFiles(event.dataTransfer.files);
   });
 }

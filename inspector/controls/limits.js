@@ -1,6 +1,7 @@
 // The form with the kind of input and the limits.
 
 import { $ } from "../views/dom.js";
+import { grouped } from "../format/pointer.js";
 
 const fields = () => $("limits").elements;
 
@@ -14,10 +15,25 @@ export function limitsOfForm() {
     isUnamplified: flag("isUnamplified"), isExclusive: flag("isExclusive"), hasTable: formatOfForm() !== "table" };
 }
 
-/** Fills in the limits of a message that came with the page. */
-export function fillForm(limits) {
+/** The limits at first. (a browser may have kept others in the form) */
+$("limits").reset();
+export const USUAL = limitsOfForm();
+
+export function fillForm({ hasTable, ...limits }, format) {
   for (const [name, value] of Object.entries(limits)) fields()[name][typeof value === "boolean" ? "checked" : "value"] = value;
-  fields().format.value = "plain";
+  fields().format.value = format;
+}
+
+/** What differs from the limits at first, in words. */
+export function unusual(limits, format) {
+  const said = { packed: ["read as packed"], table: ["no segment table"] }[format] ?? [];
+  for (const [name, text] of [["words", "words"], ["charge", "words of charge"], ["depth", "levels"]]) {
+    if (limits[name] !== USUAL[name]) said.push(`${grouped(limits[name])} ${text}`);
+  }
+  if (!limits.isStrict) said.push("not strict");
+  if (!limits.isUnamplified) said.push("may be amplified");
+  if (limits.isExclusive) said.push("exclusive");
+  return said.join(", ");
 }
 
 /** The command line that vets within these limits. */

@@ -9,6 +9,7 @@ export class Message {
   /** @param {Uint8Array} bytes the whole frame, at an address that is a multiple of 4 */
   constructor(bytes, hasTable = true) {
     this.bytes = bytes;
+    this.length = bytes.length;
     this.hasTable = hasTable;
     this.total = bytes.length / BYTES_OF_WORD;
     /** Each word as two numbers of 32 bits, the low one first. */
@@ -25,6 +26,16 @@ export class Message {
 
   get words() {
     return this.total - this.table;
+  }
+
+  /** What its part with this number is called. */
+  partName(segment) {
+    return `segment ${segment}`;
+  }
+
+  /** How many bytes of a word don't exist. */
+  lacking(at) {
+    return Math.max(0, 8 * at + 8 - this.length);
   }
 
   /** The segment of a word, or -1 for a word of the table. */
@@ -54,11 +65,39 @@ export class Message {
     return Array.from({ length: found.pads }, (_, i) => this.starts[found.padSegment] + found.padWord + i);
   }
 
+  /** The bytes of a word. */
+  word(at) {
+    return this.bytes.subarray(8 * at, 8 * at + 8 - this.lacking(at));
+  }
+
   /** The eight bytes of a word as hexadecimal digits, in the order of the stream. */
   hex(at) {
     let text = "";
-    for (let i = 8 * at; i < 8 * at + 8; i++) text += this.bytes[i].toString(16).padStart(2, "0");
+    for (let i = 8 * at; i < 8 * at + 8 - this.lacking(at); i++) text += this.bytes[i].toString(16).padStart(2, "0");
     return text;
+  }
+}
+
+/** The bytes from where an input stops being messages. The last word may have fewer than eight. */
+export class Rest extends Message {
+  /** `table` words are those of a table that was read. */
+  constructor(bytes, table) {
+    const padded = new Uint8Array(Math.ceil(bytes.length / BYTES_OF_WORD) * BYTES_OF_WORD);
+    padded.set(bytes);
+    super(padded, false);
+    this.isRest = true;
+    this.length = bytes.length;
+    this.table = table;
+    this.sizes = [this.total - table];
+    this.starts = [table];
+  }
+
+  partName() {
+    return this.table ? "what follows" : "bytes";
+  }
+
+  place(at) {
+    return at < this.table ? `table:${at}` : `word ${at}`;
   }
 }
 

@@ -26,6 +26,14 @@ function lineOf(text) {
   return { name, text: rest };
 }
 
+/** What the lines about the end of a stream say: a sentence, and facts. */
+export function explainedStop({ lines, said, guess }) {
+  const all = lines ? lines.trimEnd().split("\n").map(lineOf) : [], reason = all.find(({ name }) => name === "reason");
+  const facts = all.filter(({ name }) => name !== "reason");
+  if (guess) facts.push({ name: "guess", text: guess });
+  return { sentence: sentenceOf(reason?.text ?? said), facts };
+}
+
 /** The words that a refused pointer leads to. */
 class Target {
   constructor(message, way, reason) {

@@ -2,9 +2,11 @@
 
 import { make, span } from "./dom.js";
 import { Scroller } from "./scroller.js";
+import { isTextSelected } from "../controls/copy.js";
 import { Layout } from "./layout.js";
 import { KINDS } from "./map.js";
-import { asciiText, numberText } from "./tree.js";
+import { asciiText } from "./tree.js";
+import { numbersText } from "../format/numbers.js";
 import { Found, amount, follow, foundText, grouped, pointerText, structsText } from "../format/pointer.js";
 import { DATA, KIND, LOOKED, PAD, POINTER, ROOT, SURPLUS, TABLE, TAG, TWICE, UNSEEN, UNUSED, VALUE } from "../format/walk.js";
 
@@ -60,14 +62,14 @@ export class BytesView {
 
   word(at, section) {
     const { message } = this, mark = this.map.marks[at], kind = (mark & KIND) || (this.isPartial ? UNSEEN : UNUSED);
-    const place = section.segment < 0 ? "table" : `${section.segment}:${at - section.first}`;
+    const place = section.segment < 0 ? "table" : message.isRest ? "" : `${section.segment}:${at - section.first}`;
     const hex = message.hex(at).replace(/../g, "$& ").trim(), note = this.note(at, kind, mark);
     return make("div", {
       className: this.names(at, kind, mark).join(" "), role: "option", id: `word-${at}`,
       "aria-selected": String(this.selection?.at === at), "aria-label": `${place}, ${hex}, ${note}`,
       "aria-setsize": String(message.total), "aria-posinset": String(at + 1),
     }, span("offset", (8 * at + this.offset).toString(16).padStart(6, "0")), span("place", place),
-    span("hex", hex.slice(0, 11), make("i", {}, hex.slice(11))), span("ascii", asciiText(message, at)), span("note", note));
+    span("hex", hex.slice(0, 11), make("i", {}, hex.slice(11))), span("ascii", asciiText(message, at, message.lacking(at))), span("note", note));
   }
 
   /** The classes of the row of a word. */
@@ -95,10 +97,10 @@ export class BytesView {
       case ROOT: case POINTER: return (mark & LOOKED ? this.pointerNote(at) : "not looked at") + twice;
       case PAD: return `landing pad: ${pointerText(message.decode(at))}${twice}`;
       case TAG: return `tag: ${structsText(low >>> 2, high & 0xffff, high >>> 16)}${twice}`;
-      case DATA: return `data ${numberText(message, at)}${twice}`;
+      case DATA: return `data ${numbersText(message.word(at), 8, "unsigned")}${twice}`;
       case VALUE: return `values${twice}`;
       case SURPLUS: return `after the last element${twice}`;
-      case UNSEEN: return "not looked at";
+      case UNSEEN: return message.isRest ? "" : "not looked at";
       default: return "unused";
     }
   }
@@ -112,7 +114,7 @@ export class BytesView {
 
   click(event) {
     const row = this.scroller.rowAt(event.clientY);
-    if (!this.message || row >= this.layout.rows) return;
+    if (!this.message || row >= this.layout.rows || isTextSelected(this.view)) return;
     const it = this.layout.row(row);
     if (it.count) this.select(it.first);
     else if (it.ghost && this.explanation) this.select(this.explanation.at);

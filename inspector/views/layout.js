@@ -13,7 +13,7 @@ export class Layout {
     const ghosts = ghostsOf(message, explanation);
     if (message.table) this.add("table", 0, message.table, []);
     message.sizes.forEach((size, segment) => {
-      this.add(`segment ${segment}`, message.starts[segment], size, ghosts.filter((it) => it.segment === segment), segment);
+      this.add(message.partName(segment), message.starts[segment], size, ghosts.filter((it) => it.segment === segment), segment);
     });
     for (const ghost of ghosts.filter((it) => it.segment >= message.sizes.length)) {
       this.add(`segment ${ghost.segment}`, message.total, 0, [ghost], ghost.segment, true);

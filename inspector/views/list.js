@@ -2,6 +2,7 @@
 
 import { make, span } from "./dom.js";
 import { Scroller } from "./scroller.js";
+import { isTextSelected } from "../controls/copy.js";
 import { grouped } from "../format/pointer.js";
 
 const HEIGHT = 40;
@@ -11,7 +12,7 @@ export class MessageList {
     Object.assign(this, { view, messages, choose, chosen: -1, shown: null });
     this.scroller = new Scroller(view, HEIGHT, (first, count) => this.rows(first, count));
     view.addEventListener("keydown", (event) => this.key(event));
-    view.addEventListener("click", (event) => this.pick(this.scroller.rowAt(event.clientY)));
+    view.addEventListener("click", (event) => { if (!isTextSelected(view)) this.pick(this.scroller.rowAt(event.clientY)); });
   }
 
   /** Shows all messages, or the refused ones. */
@@ -27,15 +28,15 @@ export class MessageList {
   }
 
   get length() {
-    return this.shown ? this.shown.length : this.messages.count;
+    return this.shown ? this.shown.length + this.messages.entries - this.messages.count : this.messages.entries;
   }
 
   number(row) {
-    return this.shown ? this.shown[row] : row;
+    return this.shown ? this.shown[row] ?? this.messages.count : row;
   }
 
   row(number) {
-    return this.shown ? this.shown.indexOf(number) : number;
+    return !this.shown ? number : number === this.messages.count ? this.shown.length : this.shown.indexOf(number);
   }
 
   select(number) {
@@ -63,17 +64,27 @@ export class MessageList {
   }
 
   element(number) {
-    const it = this.messages.get(number), isChosen = number === this.chosen;
-    const said = it.reason || "accepted";
+    if (number === this.messages.count) return this.restElement(this.messages.rest, number);
+    const it = this.messages.get(number), said = it.reason || "accepted";
     const names = ["charge", "depth", "pointers", ...(it.caps ? ["caps"] : [])];
     const numbers = it.reason ? [["at", it.place], ["pointers", grouped(it.pointers)]]
       : names.map((name) => [name, grouped(it[name])]);
+    const label = `message ${number}, ${said}, ${numbers.map(([name, value]) => `${name} ${value}`).join(", ")}`;
+    return this.entry(number, it.reason ? "refused" : "accepted", label, span("number", grouped(number)), span("said", said),
+      span("size", `${grouped(it.length)} B`), span("numbers", ...numbers.flatMap(([name, value]) => [make("i", {}, name), ` ${value} `])));
+  }
+
+  /** What follows the last message. */
+  restElement({ reason, offset, length }, number) {
+    return this.entry(number, "refused", `rest of the input, ${reason}, from byte ${grouped(offset)}`, span("number", "⋯"),
+      span("said", reason), span("size", `${grouped(length)} B`), span("numbers", make("i", {}, "no message, from byte"), ` ${grouped(offset)}`));
+  }
+
+  entry(number, name, label, ...parts) {
+    const isChosen = number === this.chosen;
     return make("div", {
-      className: `message ${it.reason ? "refused" : "accepted"}${isChosen ? " chosen" : ""}`, id: `message-${number}`,
-      role: "option", "aria-selected": String(isChosen),
-      "aria-setsize": String(this.length), "aria-posinset": String(this.row(number) + 1),
-      "aria-label": `message ${number}, ${said}, ${numbers.map(([name, value]) => `${name} ${value}`).join(", ")}`,
-    }, span("number", grouped(number)), span("said", said), span("size", `${grouped(it.length)} B`),
-    span("numbers", ...numbers.flatMap(([name, value]) => [make("i", {}, name), ` ${value} `])));
+      className: `message ${name}${isChosen ? " chosen" : ""}`, id: `message-${number}`, role: "option", "aria-selected": String(isChosen),
+      "aria-setsize": String(this.length), "aria-posinset": String(this.row(number) + 1), "aria-label": label,
+    }, ...parts);
   }
 }

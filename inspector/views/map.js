@@ -2,8 +2,9 @@
 
 import { Scroller } from "./scroller.js";
 import { Layout } from "./layout.js";
+import { isDiffering } from "../format/difference.js";
 import { grouped } from "../format/pointer.js";
-import { KIND, LOOKED, POINTER, TWICE, UNSEEN, UNUSED } from "../format/walk.js";
+import { KIND, LOOKED, POINTER, TWICE, UNSEEN, UNUSED, VALUE } from "../format/walk.js";
 
 /** The side of a cell, and of one that is for fingers. */
 const SIDE = 12, LARGE_SIDE = 17, GAP = 1;
@@ -23,21 +24,31 @@ export class MapView {
   }
 
   show(message, map, explanation, isPartial) {
-    Object.assign(this, { message, map, explanation, isPartial, selection: null });
+    Object.assign(this, { message, map, explanation, isPartial, difference: null, selection: null, layout: null });
     this.arrange();
     this.scroller.moveTo(0);
+  }
+
+  /** Marks the words in which the message first differs from its canonical copy, or none. */
+  mark(difference) {
+    this.difference = difference;
+    this.scroller.paint();
   }
 
   /** Works out the rows for this width. */
   arrange() {
     if (!this.message) return this.scroller.resize(0);
+    // (the rows of a view that isn't shown are not known)
+    if (!this.view.clientWidth) return;
     const digits = String(Math.max(...this.message.sizes)).length;
     this.left = 12 + 7 * Math.max(4, digits + Math.floor((digits - 1) / 3));
     const fitting = Math.floor((this.view.clientWidth - this.left - 6) / this.side);
-    this.columns = fitting >= 16 ? fitting - fitting % 8 : Math.max(4, fitting);
-    this.layout = new Layout(this.message, this.explanation, this.columns, false);
+    const columns = fitting >= 16 ? fitting - fitting % 8 : Math.max(4, fitting), isOther = !this.layout || columns !== this.columns;
+    this.columns = columns;
+    this.layout = new Layout(this.message, this.explanation, columns, false);
     this.scroller.resize(this.layout.rows);
     this.readColours();
+    if (isOther && this.selection) this.point(this.selection);
   }
 
   readColours() {
@@ -70,7 +81,7 @@ export class MapView {
     pen.clearRect(0, 0, width, height);
     pen.font = "10px ui-monospace, monospace";
     pen.textBaseline = "middle";
-    if (!this.message) return;
+    if (!this.layout) return;
     for (let row = first; row < first + count; row++) this.drawRow(this.layout.row(row), row * this.side - top);
     if (this.selection) this.drawSelection(top);
   }
@@ -103,7 +114,21 @@ export class MapView {
       pen.strokeRect(x + 0.5, y + 0.5, side - 1, side - 1);
     } else if (kind === UNSEEN) {
       this.line(ink["cell-line"], 1, [[x + 2, y + side - 2], [x + side - 2, y + 2]]);
+    } else if (kind === VALUE && !(mark & TWICE)) {
+      // (not by its colour alone)
+      pen.fillStyle = ink.panel;
+      pen.fillRect(x + 2, y + side / 2 - 1, side - 4, 2);
     }
+    if (this.difference && isDiffering(this.difference.words, at)) this.dot(x, y, side);
+  }
+
+  /** A mark that is seen on each colour. */
+  dot(x, y, side) {
+    const { pen, ink } = this, inset = Math.floor(side / 2) - 2;
+    pen.fillStyle = ink.panel;
+    pen.fillRect(x + inset - 1, y + inset - 1, side - 2 * inset + 2, side - 2 * inset + 2);
+    pen.fillStyle = ink.text;
+    pen.fillRect(x + inset, y + inset, side - 2 * inset, side - 2 * inset);
   }
 
   line(colour, width, points) {
@@ -148,7 +173,8 @@ export class MapView {
     const way = chain.map((it) => this.centre(it, top));
     for (let i = 1; i < way.length; i++) this.link(way[i - 1], way[i], ink.text, 1);
     for (const it of chain.slice(0, -1)) this.ring(it, top, ink.text, 1.5);
-    if (explanation && explanation.at !== null) this.ring(explanation.at, top, ink.bad, 2);
+    const fault = explanation?.at ?? this.difference?.at;
+    if (fault !== undefined && fault !== null) this.ring(fault, top, ink.bad, 2);
     const after = [at, ...pads.slice(0, 1), ...(target?.words && !selection.isElement ? [target.start] : [])];
     const ghost = isRefused ? this.ghostRow() : null;
     this.links([...after.map((it) => this.centre(it, top)), ...(ghost ? [this.ghostCentre(ghost, top)] : [])], colour);
@@ -238,7 +264,7 @@ export class MapView {
 
   click(event) {
     const row = this.scroller.rowAt(event.clientY);
-    if (!this.message || row >= this.layout.rows) return;
+    if (!this.layout || row >= this.layout.rows) return;
     const it = this.layout.row(row), x = event.clientX - this.view.getBoundingClientRect().left - this.left;
     const column = Math.floor(x / this.side);
     if (it.count && column >= 0 && column < it.count) this.select(it.first + column);

@@ -2,14 +2,20 @@
 
 /** Browsers can't scroll more than some ten million pixels. */
 const HIGHEST = 8_000_000;
+/** Rows are placed from a multiple of this on. */
+const PLACED = 1024;
 
 export class Scroller {
   /** `draw(first, count)` returns the elements of these rows, or draws them itself. */
   constructor(view, rowHeight, draw) {
-    Object.assign(this, { view, rowHeight, draw, count: 0, top: 0, set: -1 });
+    Object.assign(this, { view, rowHeight, draw, count: 0, top: 0, set: -1, waiting: null });
     this.layer = document.createElement("div");
     this.layer.className = "layer";
     this.layer.setAttribute("role", "presentation");
+    this.rows = document.createElement("div");
+    this.rows.className = "rows";
+    this.rows.setAttribute("role", "presentation");
+    this.layer.append(this.rows);
     this.space = document.createElement("div");
     this.space.className = "space";
     view.append(this.layer, this.space);
@@ -37,14 +43,16 @@ export class Scroller {
 
   resize(count = this.count) {
     this.count = count;
+    if (!this.height) return;
     this.space.style.height = `${this.mostScrolled}px`;
     this.layer.style.height = `${this.height}px`;
     this.moveTo(this.top);
+    if (this.waiting) this.reveal(...this.waiting);
   }
 
   scrolled() {
     const at = this.view.scrollTop;
-    if (Math.abs(at - this.set) < 1) return;
+    if (!this.height || Math.abs(at - this.set) < 1) return;
     this.set = at;
     this.top = this.isScaled ? at / this.mostScrolled * this.most : at;
     this.paint();
@@ -57,6 +65,11 @@ export class Scroller {
   }
 
   moveTo(top) {
+    // (a view that isn't shown can't scroll)
+    if (!this.height) {
+      this.top = top;
+      return;
+    }
     this.top = Math.max(0, Math.min(this.most, top));
     this.view.scrollTop = this.isScaled ? this.top / this.most * this.mostScrolled : this.top;
     this.set = this.view.scrollTop;
@@ -66,6 +79,8 @@ export class Scroller {
 
   /** Makes a row visible, with some rows around it. A row that is far away comes to the upper third. */
   reveal(row, around = 2) {
+    this.waiting = this.height ? null : [row, around];
+    if (this.waiting) return;
     const y = row * this.rowHeight, margin = Math.min(around * this.rowHeight, this.height / 3);
     if (y < this.top - this.height / 2 || y > this.top + 1.5 * this.height) return this.moveTo(y - this.height / 3);
     if (y - margin < this.top) this.moveTo(y - margin);
@@ -88,9 +103,19 @@ export class Scroller {
     const first = Math.floor(this.top / this.rowHeight), count = Math.ceil(this.height / this.rowHeight) + 1;
     const rows = this.draw(first, Math.min(count, this.count - first), this.top);
     if (!rows) return;
-    this.layer.replaceChildren(...rows);
-    const shift = first * this.rowHeight - this.top;
-    rows.forEach((row, i) => { row.style.transform = `translateY(${shift + i * this.rowHeight}px)`; });
+    // (no row moves while others come into view)
+    const base = first - first % PLACED;
+    rows.forEach((row, i) => { row.style.transform = `translateY(${(first + i - base) * this.rowHeight}px)`; });
+    this.rows.style.transform = `translateY(${base * this.rowHeight - this.top}px)`;
+    this.put(rows);
+  }
+
+  /** Shows rows. One that is there already stays, with what is selected of its text. */
+  put(rows) {
+    const before = new Map(Array.from(this.rows.children, (it) => [it.outerHTML, it]));
+    const shown = rows.map((row) => before.get(row.outerHTML) ?? row), stays = new Set(shown);
+    for (const it of before.values()) if (!stays.has(it)) it.remove();
+    shown.forEach((it, i) => { if (this.rows.children[i] !== it) this.rows.insertBefore(it, this.rows.children[i] ?? null); });
   }
 
   /** The row at a place of the screen. */

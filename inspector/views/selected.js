@@ -1,7 +1,9 @@
 // The strip with the way to the selected word, and what it is.
 
 import { $, make } from "./dom.js";
+import { isDiffering } from "../format/difference.js";
 import { Node } from "../format/nodes.js";
+import { allNumbers } from "../format/numbers.js";
 import { grouped } from "../format/pointer.js";
 import { pathOf } from "../format/refusal.js";
 import { KIND, LOOKED, TWICE, UNUSED } from "../format/walk.js";
@@ -19,14 +21,25 @@ export function showSelection(selection, shown, select) {
   $("path").value = steps ? pathOf(steps) : "";
   $("selected").replaceChildren(...textOf(selection, shown));
   $("follow").disabled = !selection.target?.words && !selection.pads.length;
+  showNumbers(selection, message);
   $("crumbs").lastElementChild?.scrollIntoView({ block: "nearest", inline: "end" });
+}
+
+/** Shows the numbers that a word may be, if they are asked for. */
+export function showNumbers(selection, message) {
+  if (!$("numbers").open || !selection) return;
+  const pairs = allNumbers(message.word(selection.at));
+  $("numbers").lastElementChild.replaceChildren(...pairs.map(([name, text]) => (
+    make("div", { className: text.length > 20 ? "long" : "" }, make("dt", {}, name), make("dd", {}, text)))));
 }
 
 /** What a selection is, in words. */
 function textOf({ at, isRefused, target, pads, text, isElement, detail }, shown) {
-  const { message, map: words, explanation, offset, isPacked, isPartial } = shown;
-  const mark = words.marks[at], parts = [make("b", {}, message.place(at)), ` byte ${grouped(8 * at)} of the message`];
-  if (!isPacked && offset) parts.push(`, ${grouped(8 * at + offset)} of the input`);
+  const { message, map: words, explanation, difference, offset, isPacked, isPartial } = shown;
+  const mark = words.marks[at], ofInput = `${grouped(8 * at + offset)} of the input`;
+  if (message.isRest) return [make("b", {}, message.place(at)), ` byte ${ofInput}`];
+  const parts = [make("b", {}, message.place(at)), ` byte ${grouped(8 * at)} of the message`];
+  if (!isPacked && offset) parts.push(`, ${ofInput}`);
   if (isRefused) return [...parts, "  ", make("strong", {}, `refused: ${explanation.reason}`)];
   if (text) parts.push(`  ${text}`);
   if (target?.words && !isElement) parts.push(` → ${message.place(target.start)}${pads.length ? " through a landing pad" : ""}`);
@@ -35,5 +48,7 @@ function textOf({ at, isRefused, target, pads, text, isElement, detail }, shown)
   if (detail && !text) parts.push(`  ${DETAILS[detail[0]] ?? detail}`);
   if (!text && !detail && (mark & KIND) === UNUSED) parts.push(isPartial ? "  not looked at" : "  unused");
   if (mark & TWICE) parts.push("  ", make("em", {}, "used twice"));
+  if (difference?.at === at) parts.push("  ", make("strong", {}, `not canonical: ${difference.reason}`));
+  else if (difference && isDiffering(difference.words, at)) parts.push("  not as in the canonical copy");
   return parts;
 }

@@ -2,7 +2,9 @@
 
 import { make, span } from "./dom.js";
 import { Scroller } from "./scroller.js";
+import { isTextSelected } from "../controls/copy.js";
 import { Node } from "../format/nodes.js";
+import { bitsText, numbersText } from "../format/numbers.js";
 import { POINTERS, STRUCT, STRUCTS, VALUES } from "../format/pointer.js";
 import { LOOKED } from "../format/walk.js";
 
@@ -63,7 +65,7 @@ class Open {
 
 export class Tree {
   constructor(view, select) {
-    Object.assign(this, { view, select, root: null, cursor: null });
+    Object.assign(this, { view, select, root: null, cursor: null, way: "unsigned" });
     this.scroller = new Scroller(view, HEIGHT, (first, count) => this.rows(first, count));
     view.addEventListener("keydown", (event) => this.key(event));
     view.addEventListener("click", (event) => this.click(event));
@@ -158,9 +160,22 @@ export class Tree {
   }
 
   ownWord({ kind, found }, at, index) {
-    const surplus = found.element === 2 ? 8 * (index + 1) - found.size : 0;
-    const text = kind === STRUCT ? numberText(this.message, at) : asciiText(this.message, at, surplus);
+    const text = kind === STRUCT ? numbersText(this.message.word(at), 8, this.way) : this.listText(at, found, index);
     return [span("hex", this.message.hex(at).replace(/../g, "$& ")), span("dim", text)];
+  }
+
+  /** A word of a list of values: characters, bits, or numbers. */
+  listText(at, { element, size }, index) {
+    const bytes = this.message.word(at), width = [0, 0, 1, 2, 4, 8][element];
+    if (element === 1) return bitsText(bytes, Math.min(64, size - 64 * index));
+    if (element === 2) return asciiText(this.message, at, 8 * (index + 1) - size);
+    return numbersText(bytes.subarray(0, Math.min(8, width * size - 8 * index)), width, this.way);
+  }
+
+  /** Shows numbers in this way: unsigned, signed or floating. */
+  showNumbers(way) {
+    this.way = way;
+    this.scroller.paint();
   }
 
   isOpen(item) {
@@ -232,7 +247,7 @@ export class Tree {
 
   click(event) {
     const row = this.scroller.rowAt(event.clientY);
-    if (!this.root || row > this.root.rows) return;
+    if (!this.root || row > this.root.rows || isTextSelected(this.view)) return;
     if (event.target.classList.contains("twist")) this.toggle(this.item(row));
     else this.choose(row);
   }
@@ -266,12 +281,6 @@ function chip(name) {
 /** The name of the colour of a node. */
 function kindName({ kind }) {
   return { [STRUCT]: "data", [VALUES]: "value", [POINTERS]: "pointer", [STRUCTS]: "tag" }[kind] ?? "null";
-}
-
-/** A word as a number. */
-export function numberText(message, at) {
-  const high = message.halves[2 * at + 1], low = message.halves[2 * at];
-  return String((BigInt(high) << 32n) + BigInt(low));
 }
 
 /** The bytes of a word as characters, with points for those that aren't printable. The last word of a list may have fewer bytes. */

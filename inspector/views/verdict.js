@@ -3,6 +3,7 @@
 import { $, make } from "./dom.js";
 import { lineOf } from "./verdicts.js";
 import { amount, grouped } from "../format/pointer.js";
+import { explainedStop } from "../format/refusal.js";
 
 /** Shows the verdict. `select` is called with the word of a fact. */
 export function showVerdict(shown, select) {
@@ -13,6 +14,16 @@ export function showVerdict(shown, select) {
   $("save-canonical").disabled = true;
   $("save-packed").disabled = !shown.limits.hasTable;
   $("verdict").replaceChildren(...(explanation ? refused(explanation, shown, select) : accepted(shown)));
+}
+
+/** Shows why an input stops being messages. */
+export function showStop(rest) {
+  const { sentence, facts } = explainedStop(rest);
+  $("line").textContent = rest.text;
+  $("verdict-panel").classList.remove("good");
+  $("verdict-panel").classList.add("bad");
+  $("verdict").replaceChildren(make("p", { className: "title" }, make("b", {}, rest.reason), ` at byte ${grouped(rest.offset)} of the input`),
+    make("p", { className: "sentence" }, sentence), factList(facts.map((it) => ({ ...it, at: null }))));
 }
 
 function refused(explanation, { counts, message, offset, isPacked, isPartial }, select) {
@@ -56,14 +67,27 @@ function accepted({ verdict, counts, message }) {
     make("dl", { className: "facts", id: "canonical" }, make("dt", {}, "canonical"), make("dd", {}, "…"))];
 }
 
-/** Shows what is known of the canonical form. */
-export function showCanonical({ words, isCanonical, hash }, { message }) {
-  const saved = message.words - words;
-  const text = words === null ? "no canonical form: the message has a capability" : isCanonical ? "yes"
-    : `no: a copy has ${amount(words, "word")}${saved ? `, ${grouped(Math.abs(saved))} ${saved > 0 ? "fewer" : "more"}` : ""}`;
+/** Shows what is known of the canonical form. `select` is called with the word of the first difference. */
+export function showCanonical({ words, hash, difference }, { message }, select) {
   $("save-canonical").disabled = words === null;
-  $("canonical").replaceChildren(make("dt", {}, "canonical"), make("dd", {}, text));
+  const rows = difference ? [...differing(difference, message, select), ["canonical copy", copyText(words, message)]] : [["canonical", "yes"]];
+  $("canonical").replaceChildren(...rows.flatMap(([name, ...said]) => [make("dt", {}, name), make("dd", {}, ...said)]));
   if (words === null) return;
   const shown = hash ?? "not available: open the page as a file or by https";
   $("canonical").append(make("dt", {}, "SHA-256"), make("dd", { className: "hash", id: "hash" }, shown));
+}
+
+function copyText(words, message) {
+  if (words === null) return "none: the message has a capability";
+  const saved = message.words - words;
+  return `${amount(words, "word")}${saved ? `, ${grouped(Math.abs(saved))} ${saved > 0 ? "fewer" : "more"}` : ""}`;
+}
+
+/** The rows about the first difference. */
+function differing({ reason, path, sentence, at, words }, message, select) {
+  const { start, count, step } = words, last = start + (count - 1) * step;
+  const place = [code(message.place(at), () => select(at)), ...(path === null ? [] : [", path ", code(shortened(path), () => select(at))])];
+  const range = count > 1 ? `${message.place(start)} to ${message.place(last)}` : message.place(start);
+  return [["canonical", "no: ", make("b", {}, reason), " at ", ...place], ["why", make("span", { className: "why" }, sentence)],
+    ["differs", code(range, () => select(start)), `, ${amount(count, "word")}`]];
 }

@@ -9,6 +9,8 @@ export class Verdicts {
 
   clear() {
     this.count = 0;
+    /** What follows the last message, or null: the input stops being messages there. */
+    this.rest = null;
     this.reason = [];
     /** The numbers of the refused messages. */
     this.refused = [];
@@ -30,6 +32,22 @@ export class Verdicts {
       if (batch.reason[i]) this.refused.push(this.count + i);
     }
     this.count = count;
+  }
+
+  /** How many messages there are, and one more for the rest. */
+  get entries() {
+    return this.count + (this.rest ? 1 : 0);
+  }
+
+  /** The number of the message that has a byte of the plain input, or of the rest, or -1. */
+  numberAt(byte) {
+    let low = 0, high = this.count;
+    while (low < high) {
+      const middle = (low + high) >> 1;
+      if (this.offset[middle] + this.length[middle] <= byte) low = middle + 1; else high = middle;
+    }
+    if (low < this.count) return low;
+    return this.rest && byte >= this.rest.offset && byte < this.rest.offset + this.rest.length ? low : -1;
   }
 
   get(number) {

@@ -1,14 +1,15 @@
 // The bytes of an input: from a file, or from pasted text.
 
 import { bytesOfBase64 } from "../format/base64.js";
+import { TextFault } from "../format/fault.js";
+import { bytesOfDump, isDump } from "../format/dump.js";
+import { bytesOfLiteral, isLiteral } from "../format/literal.js";
 import { frame } from "./library.js";
 
 const SPACE = /[\s,;:]|0x|\\x/gi;
 
-function bytesOfHex(text) {
-  const digits = text.replace(SPACE, "");
-  if (!digits || digits.length % 2 || /[^0-9a-f]/i.test(digits)) return null;
-  return Uint8Array.from({ length: digits.length / 2 }, (_, i) => parseInt(digits.slice(2 * i, 2 * i + 2), 16));
+function bytesOfHex(digits) {
+  return Uint8Array.from({ length: digits.length >> 1 }, (_, i) => parseInt(digits.slice(2 * i, 2 * i + 2), 16));
 }
 
 function bytesOfEncoded(text) {
@@ -30,10 +31,17 @@ function isFrame(bytes) {
   }
 }
 
-/** The bytes of hexadecimal digits or base64, or null if the text is neither. If it is both, those that begin with a message. */
+/** The bytes of a text. Digits that are base64 too are those whose bytes begin with a message. Throws TextFault. */
 export function bytesOfText(text) {
-  const both = [bytesOfHex(text), bytesOfEncoded(text)].filter((bytes) => bytes !== null);
-  return both.find(isFrame) ?? both[0] ?? null;
+  if (isDump(text)) return bytesOfDump(text);
+  if (isLiteral(text)) return bytesOfLiteral(text);
+  const digits = text.replace(SPACE, ""), isHex = /^[0-9a-f]+$/i.test(digits), encoded = bytesOfEncoded(text);
+  const plain = isHex && digits.length % 2 === 0 ? bytesOfHex(digits) : null;
+  const found = [plain, encoded].filter((bytes) => bytes !== null), message = found.find(isFrame);
+  if (message) return message;
+  if (isHex && !plain) throw new TextFault(`The text has ${digits.length} hexadecimal digits, which is an odd number.`);
+  if (!found.length) throw new TextFault("This text is neither hexadecimal digits nor base64.");
+  return found[0];
 }
 
 /** Reads a file, and reports how many bytes have come. */

@@ -1,11 +1,12 @@
 // What the page shows of one message.
 
-import { canonical, explain, isCanonical, packMessage } from "./library.js";
+import { packMessage } from "./library.js";
+import { explainedDifference } from "../format/difference.js";
 import { Message } from "../format/message.js";
 import { Found, follow } from "../format/pointer.js";
 import { explained, isDemand, pathOf } from "../format/refusal.js";
 import { KIND, TABLE, TWICE, UNUSED, WordMap, walk } from "../format/walk.js";
-import { optionsOf } from "./stream.js";
+import { vetted } from "./stream.js";
 
 /** Walks a message, with pauses. */
 async function walked(message, options, progress) {
@@ -16,15 +17,20 @@ async function walked(message, options, progress) {
   }
 }
 
-/** The map of a message, and the explanation of its refusal, or null. */
+/** The map of a message, the lines that explain its refusal, and what the page says of it, or null. */
 export async function analyse(bytes, verdict, limits, progress) {
+  const lines = verdict.reason ? linesOf(bytes, limits) : "";
+  return { ...await explainedBy(lines, bytes, verdict, limits, progress), lines };
+}
+
+async function explainedBy(lines, bytes, verdict, limits, progress) {
   const message = new Message(bytes, limits.hasTable), map = new WordMap(message), { reason, pointers } = verdict;
   const isPartial = reason !== "" && !isDemand(reason);
   if (!reason) {
     await walked(message, { isOnce: true, map }, progress);
     return { map, explanation: null, isPartial };
   }
-  const text = reason === "Overlap" ? null : explain(bytes, optionsOf(limits));
+  const text = reason === "Overlap" ? null : lines;
   if (pointers === 0) {
     if (!isPartial) await walked(message, { isOnce: true, map }, progress);
     return { map, explanation: explained(message, verdict, null, text, null), isPartial };
@@ -72,23 +78,36 @@ export function countWords(map, total) {
   return { kinds: counts, unused: counts[UNUSED], twice, table: counts[TABLE] };
 }
 
-/** The canonical words of an accepted message without capabilities, or null. */
-export function canonicalOf(bytes, limits) {
+/** What a call returns, or null for a message that is refused or has a capability. */
+function unlessRefused(call) {
   try {
-    return canonical(bytes, optionsOf(limits));
+    return call();
   } catch (error) {
     if (!error.reason) throw error;
     return null;
   }
 }
 
-export function isCanonicalForm(bytes, limits) {
+/** The lines that explain a refusal. */
+function linesOf(bytes, limits) {
   try {
-    return isCanonical(bytes, optionsOf(limits));
+    vetted(bytes, limits);
+    return "";
   } catch (error) {
     if (!error.reason) throw error;
-    return false;
+    return error.explain();
   }
+}
+
+/** The canonical words of an accepted message without capabilities, or null. */
+export function canonicalOf(bytes, limits) {
+  return unlessRefused(() => vetted(bytes, limits).canonical());
+}
+
+/** What the page says of the first difference of an accepted message from its canonical copy, or null. */
+export function differenceOf(bytes, limits) {
+  const found = vetted(bytes, limits).firstDifference();
+  return found && explainedDifference(new Message(bytes, limits.hasTable), found);
 }
 
 /** A canonical copy as a framed message of one segment. */

@@ -1,6 +1,6 @@
 // The messages of an input, with their verdicts, as columns of numbers.
 
-import { messages, readMessages, vet, vetExclusive } from "./library.js";
+import { Message, messages, readMessages, vet, vetWords } from "./library.js";
 
 /** The most bytes that packed input may give. */
 const MOST_UNPACKED = 2 ** 30;
@@ -18,13 +18,13 @@ export class Batch {
     for (const name of NUMBERS) this[name] = new Float64Array(BATCH);
   }
 
-  add(message, offset) {
-    const { report, refusal } = message, i = this.count++, numbers = report ?? refusal;
+  add(verdict, offset) {
+    const i = this.count++, report = verdict instanceof Message ? verdict.report : null;
+    const numbers = report ? { ...report, caps: report.capabilities } : { pointers: verdict.pointer, ...verdict.position };
     this.offset[i] = offset;
-    this.length[i] = message.raw.length;
+    this.length[i] = bytesOf(verdict).length;
     for (const name of NUMBERS.slice(2)) this[name][i] = numbers[name] ?? 0;
-    this.caps[i] = report ? report.capabilities : 0;
-    this.reason.push(refusal ? refusal.reason : "");
+    this.reason.push(report ? "" : verdict.reason);
   }
 
   get isFull() {
@@ -32,10 +32,19 @@ export class Batch {
   }
 }
 
+/** The bytes of a message, accepted or refused. */
+function bytesOf(verdict) {
+  return verdict instanceof Message ? verdict.data : verdict.unvetted;
+}
+
 /** The options of the package for the limits of the page. */
-export function optionsOf({ words, charge, depth, isStrict, isUnamplified, hasTable }) {
-  const flags = { allowNonstrict: !isStrict, allowAmplified: !isUnamplified, noTable: !hasTable };
-  return { messageWords: words, charge, depth, ...flags };
+function optionsOf({ words, charge, depth, isStrict, isUnamplified, isExclusive = false }) {
+  return { messageWords: words, charge, depth, allowNonstrict: !isStrict, allowAmplified: !isUnamplified, exclusive: isExclusive };
+}
+
+/** The message that bytes are, within the limits of the page. */
+export function vetted(bytes, limits) {
+  return (limits.hasTable ? vet : vetWords)(bytes, optionsOf(limits));
 }
 
 /** Bytes that grow as messages are added to them. */
@@ -54,36 +63,37 @@ class Growing {
   }
 }
 
-/** What a fault of the stream is called, as the program's line on standard error has it. */
-function faultOf(error, count, size) {
-  if (!error.reason) throw error;
-  const rest = error.reason === "Truncated" ? `at byte ${size}` : error.detail;
-  return { text: `message ${count}: ${error.reason} ${rest}` };
+/** What ends a stream, where it is, and what it is called, as the program's line on standard error has it. */
+function faultOf(error, count, offset, size) {
+  const { reason } = error;
+  if (!reason) throw error;
+  const more = reason === "Truncated" ? `at byte ${size}` : error.segments ?? error.words ?? `of segment ${error.segment}`;
+  return { reason, offset, said: error.message, text: `message ${count}: ${reason} ${more}` };
 }
 
 /** The one message of an input without a segment table. */
 function* single(bytes, limits) {
-  const call = limits.isExclusive ? vetExclusive : vet, message = { raw: bytes, report: null, refusal: null };
   if (!bytes.length) return;
+  let verdict;
   try {
-    message.report = call(bytes, optionsOf(limits));
+    verdict = vetted(bytes, limits);
   } catch (error) {
-    if (error.segment === undefined) throw error;
-    message.refusal = error;
+    if (error.unvetted === undefined) throw error;
+    verdict = error;
   }
-  yield message;
+  yield verdict;
 }
 
 /** Iterates over the messages of an input. Packed input is unpacked into `plain`. */
 async function* all(input, isPacked, limits, plain) {
-  const options = { ...optionsOf(limits), exclusive: limits.isExclusive };
+  const options = optionsOf(limits);
   if (!limits.hasTable) {
     yield* single(input, limits);
   } else if (isPacked) {
-    for await (const message of readMessages([input], { ...options, packed: true })) {
-      plain.add(message.raw);
-      yield { raw: message.raw, report: message.report, refusal: message.refusal, taken: message.offset };
-      if (plain.length > MOST_UNPACKED) throw Object.assign(new Error(), { reason: "TooLarge", detail: "to unpack here" });
+    for await (const verdict of readMessages([input], { ...options, packed: true })) {
+      plain.add(bytesOf(verdict));
+      yield verdict;
+      if (plain.length > MOST_UNPACKED) throw Object.assign(new Error("the page unpacks no more"), { reason: "Unpacked", words: "1 GiB" });
     }
   } else {
     yield* messages(input, options);
@@ -98,18 +108,19 @@ export async function vetStream(input, isPacked, limits, report, pause) {
   const plain = new Growing(), bytes = () => (isPacked ? plain.bytes : input);
   let batch = new Batch(0), next = performance.now() + SLICE_MS, offset = 0, fault = null;
   try {
-    for await (const message of all(input, isPacked, limits, plain)) {
-      batch.add(message, offset);
-      offset += message.raw.length;
+    for await (const verdict of all(input, isPacked, limits, plain)) {
+      batch.add(verdict, offset);
+      offset += bytesOf(verdict).length;
       if (batch.isFull || performance.now() > next) {
-        report(batch, message.taken ?? offset, bytes());
+        report(batch, isPacked ? verdict.offset : offset, bytes());
         batch = new Batch(batch.first + batch.count);
         await pause();
         next = performance.now() + SLICE_MS;
       }
     }
   } catch (error) {
-    fault = faultOf(error, batch.first + batch.count, input.length);
+    // (bytes of packed input are counted packed)
+    fault = faultOf(error, batch.first + batch.count, isPacked ? error.offset ?? input.length : offset, input.length);
   }
   report(batch, input.length, bytes());
   return fault;
@@ -118,7 +129,7 @@ export async function vetStream(input, isPacked, limits, report, pause) {
 /** Whether the first message of an input has no fault but that it exceeds a limit. */
 async function beginsWell(source) {
   try {
-    for await (const { refusal } of source) return refusal === null || /^(Word|Depth)Limit$/.test(refusal.reason);
+    for await (const verdict of source) return verdict instanceof Message || /^(Word|Depth)Limit$/.test(verdict.reason);
   } catch (error) {
     if (!error.reason) throw error;
   }
