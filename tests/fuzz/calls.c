@@ -6,7 +6,10 @@
  *   - What is accepted is accepted by wider limits with the same report, and by just the limits that it needs. One less
  *     refuses it.
  *   - A message in separate segments has the same answer as its frame.
- *   - The canonical form of a canonical form is the same, and capvet_is_canonical accepts no other bytes.
+ *   - The canonical form of a canonical form is the same, and capvet_check_canonical accepts no other bytes.
+ *   - capvet_check_canonical_words accepts a canonical form with the limits of its message.
+ *   - capvet_first_difference answers and reports what capvet_check_canonical does. A message that isn't canonical has a first
+ *     difference: its reason has a name, and its pointer has a path and this place.
  *   - capvet_get_range gives the nodes of capvet_get, and these are inside the frame.
  *   - Each refusal of capvet_vet is explained, with the path of capvet_pointer_path, and nothing else is.
  *   - Unpacking gives what was packed, however the packed bytes are cut.
@@ -16,15 +19,15 @@
 #define HASH UINT64_C(0xcbf29ce484222325)
 
 enum { OUT_MOST = 1 << 20, STEPS_MOST = 6, NODES_MOST = 8, FRAMES_MOST = 300 };
-enum { FRAME, SEGMENT_AT, VET, SEGMENTS, EXCLUSIVE, CANONICAL, IS_CANONICAL, GET, RANGE, PACK, UNPACK, PACK_MESSAGE, PIECES, EXPLAIN };
+enum { FRAME, EXTENTS, VET, SEGMENTS, EXCLUSIVE, CANONICAL, IS_CANONICAL, GET, RANGE, PACK, UNPACK, PACK_MESSAGE, PIECES, EXPLAIN };
 
 static fuzz_arena input, output, other, numbers;
 
 static bool is_good(const capvet_limits *limits, bool may_lack_table) {
-  const bool lacks_table = (limits->flags & CAPVET_NO_TABLE) != 0, trails = (limits->flags & CAPVET_ALLOW_TRAILING) != 0;
+  const bool lacks_table = limits->form == CAPVET_FORM_WORDS;
   return limits->message_words <= CAPVET_MAX_MESSAGE_WORDS && limits->charge <= CAPVET_MAX_CHARGE &&
-         limits->depth <= CAPVET_MAX_DEPTH && limits->flags <= 15 && (limits->reserved[0] | limits->reserved[1]) == 0 &&
-         !(lacks_table && (trails || !may_lack_table));
+         limits->depth <= CAPVET_MAX_DEPTH && limits->flags <= 3 && limits->form <= 2 && (limits->reserved[0] | limits->reserved[1] | limits->reserved[2] | limits->reserved[3]) == 0 &&
+         !(lacks_table && !may_lack_table);
 }
 
 static bool is_equal(const capvet_report *one, const capvet_report *two) { return memcmp(one, two, sizeof *one) == 0; }
@@ -38,17 +41,27 @@ static bool has_tree(capvet_answer answer) {
          answer == CAPVET_BUFFER_TOO_SMALL;
 }
 
+static capvet_extent extents[CAPVET_MAX_SEGMENTS];
+
+/* Where the segments of the input are, and how many there are. */
+static size_t read_extents(const fuzz_input *in) {
+  const capvet_limits limits = {CAPVET_MAX_MESSAGE_WORDS, 0, 0, 0, 0, 0, {0, 0, 0, 0, 0, 0}};
+  capvet_report report;
+  size_t count;
+  RULE(capvet_segments(in->bytes, in->length, &limits, extents, CAPVET_MAX_SEGMENTS, &count, &report) == CAPVET_OK);
+  return count;
+}
+
 /* The words of a segment of the input. */
 static uint64_t words_of(const fuzz_input *in, uint32_t segment) {
-  size_t offset, length;
-  if ((in->limits.flags & CAPVET_NO_TABLE) != 0) return in->length / 8;
-  RULE(capvet_segment_at(in->bytes, in->length, segment, &offset, &length) == CAPVET_OK);
-  return length / 8;
+  if (in->limits.form == CAPVET_FORM_WORDS) return in->length / 8;
+  read_extents(in);
+  return extents[segment].length / 8;
 }
 
 /* The words of all segments of the input, of which a report is. */
 static uint64_t words_of_all(const fuzz_input *in, const capvet_report *report) {
-  const bool lacks_table = (in->limits.flags & CAPVET_NO_TABLE) != 0;
+  const bool lacks_table = in->limits.form == CAPVET_FORM_WORDS;
   return report->length / 8 - (lacks_table ? 0 : report->segments / 2 + 1);
 }
 
@@ -69,9 +82,11 @@ static void check_report(const fuzz_input *in, unsigned call, capvet_answer answ
   reached_answer(call, answer);
   RULE(strcmp(capvet_answer_name(answer), "Unknown") != 0);
   RULE((report->reserved[0] | report->reserved[1] | report->reserved[2] | report->reserved[3]) == 0);
+  RULE(report->words == (report->length == 0 ? 0 : words_of_all(in, report)));
   RULE((report->input_required != 0) == (answer == CAPVET_NO_MESSAGE || answer == CAPVET_TRUNCATED));
   const bool counts = answer == CAPVET_TOO_MANY_SEGMENTS || answer == CAPVET_TOO_LARGE || answer == CAPVET_TRAILING;
-  RULE(counts ? report->detail != 0 : report->detail == 0 || answer == CAPVET_BAD_PATH);
+  if (answer == CAPVET_WORD_LIMIT) RULE(report->detail <= in->limits.charge);
+  else RULE(counts ? report->detail != 0 : report->detail == 0 || answer == CAPVET_BAD_PATH);
   const bool is_framed = answer == CAPVET_OK || answer == CAPVET_TRAILING || answer == CAPVET_BUFFER_TOO_SMALL || answer >= 16;
   RULE((report->length != 0) == is_framed && (report->segments != 0) == is_framed);
   RULE(report->length <= in->length && report->segments <= CAPVET_MAX_SEGMENTS);
@@ -107,48 +122,49 @@ static capvet_answer check_frame(fuzz_input *in, capvet_report *report) {
 }
 
 /* The segments of a frame come one after the other, and there are no more. */
-static void check_segments_at(fuzz_input *in, const capvet_report *frame) {
-  size_t offset, length, end = 8 * (frame->segments / 2 + 1);
+static void check_extents(fuzz_input *in, const capvet_report *frame) {
+  size_t end = 8 * (frame->segments / 2 + 1), required;
+  RULE(read_extents(in) == frame->segments);
   for (uint32_t at = 0; at < frame->segments; at++) {
-    RULE(capvet_segment_at(in->bytes, in->length, at, &offset, &length) == CAPVET_OK);
-    RULE(offset == end && length % 8 == 0);
-    end += length;
+    RULE(extents[at].offset == end && extents[at].length % 8 == 0);
+    end += extents[at].length;
   }
   RULE(end == frame->length);
-  const uint32_t after = frame->segments + (uint32_t)choose(in, UINT32_MAX - frame->segments);
-  RULE(capvet_segment_at(in->bytes, in->length, after, &offset, &length) == CAPVET_NO_SEGMENT);
-  RULE(offset == 0 && length == 0);
+  capvet_report report;
+  const size_t less = choose(in, frame->segments);
+  capvet_extent *few = (capvet_extent *)(void *)fuzz_place(&output, less * sizeof *few, 0);
+  RULE(capvet_segments(in->bytes, in->length, &in->limits, few, less, &required, &report) == CAPVET_BUFFER_TOO_SMALL);
+  RULE(required == frame->segments && is_equal(frame, &report));
 }
 
 /* What another call accepts, with other limits. */
-static capvet_answer vet_by(const fuzz_input *in, uint64_t words, uint64_t charge, uint32_t depth, uint32_t flags,
+static capvet_answer vet_by(const fuzz_input *in, uint64_t words, uint64_t charge, uint32_t depth, uint32_t flags, uint32_t form,
                             capvet_report *report) {
-  const capvet_limits limits = {words, charge, depth, flags, {0, 0}};
+  const capvet_limits limits = {words, charge, depth, flags, form, 0, {0, 0, 0, 0, 0, 0}};
   return capvet_vet(in->bytes, in->length, &limits, report);
 }
 
 /* Wider limits accept as much. */
 static void check_wider(fuzz_input *in, const capvet_report *report) {
   const capvet_limits *limits = &in->limits;
-  const bool lacks_table = (limits->flags & CAPVET_NO_TABLE) != 0;
-  const uint32_t more = CAPVET_ALLOW_NONSTRICT | CAPVET_ALLOW_AMPLIFIED | (lacks_table ? 0 : CAPVET_ALLOW_TRAILING);
-  const uint32_t flags = limits->flags | (more & (uint32_t)choose(in, 8));
+  const uint32_t flags = limits->flags | (uint32_t)choose(in, 4);
+  const uint32_t form = limits->form == CAPVET_FORM_WHOLE ? (uint32_t)choose(in, 2) : limits->form;
   const uint64_t words = limits->message_words + choose(in, CAPVET_MAX_MESSAGE_WORDS - limits->message_words + 1);
   const uint64_t charge = limits->charge + choose(in, CAPVET_MAX_CHARGE - limits->charge + 1);
   const uint32_t depth = limits->depth + (uint32_t)choose(in, CAPVET_MAX_DEPTH - limits->depth + 1);
   capvet_report wider;
-  RULE(vet_by(in, words, charge, depth, flags, &wider) == CAPVET_OK && is_equal(report, &wider));
+  RULE(vet_by(in, words, charge, depth, flags, form, &wider) == CAPVET_OK && is_equal(report, &wider));
 }
 
 /* Just the limits that a message needs accept it, and one less doesn't. */
 static void check_tight(const fuzz_input *in, const capvet_report *report) {
   const uint64_t words = words_of_all(in, report), charge = report->charge;
-  const uint32_t depth = report->depth, flags = in->limits.flags;
+  const uint32_t depth = report->depth, flags = in->limits.flags, form = in->limits.form;
   capvet_report tight;
-  RULE(vet_by(in, words, charge, depth, flags, &tight) == CAPVET_OK && is_equal(report, &tight));
-  RULE(words == 0 || vet_by(in, words - 1, charge, depth, flags, &tight) == CAPVET_TOO_LARGE);
-  RULE(charge == 0 || vet_by(in, words, charge - 1, depth, flags, &tight) == CAPVET_WORD_LIMIT);
-  RULE(depth == 0 || vet_by(in, words, charge, depth - 1, flags, &tight) == CAPVET_DEPTH_LIMIT);
+  RULE(vet_by(in, words, charge, depth, flags, form, &tight) == CAPVET_OK && is_equal(report, &tight));
+  RULE(words == 0 || vet_by(in, words - 1, charge, depth, flags, form, &tight) == CAPVET_TOO_LARGE);
+  RULE(charge == 0 || vet_by(in, words, charge - 1, depth, flags, form, &tight) == CAPVET_WORD_LIMIT);
+  RULE(depth == 0 || vet_by(in, words, charge, depth - 1, flags, form, &tight) == CAPVET_DEPTH_LIMIT);
 }
 
 static capvet_answer check_vet(fuzz_input *in, capvet_answer frame, const capvet_report *framed, capvet_report *report) {
@@ -156,7 +172,7 @@ static capvet_answer check_vet(fuzz_input *in, capvet_answer frame, const capvet
   check_report(in, VET, answer, report);
   RULE((answer == CAPVET_BAD_LIMITS) == !is_good(&in->limits, true));
   if (frame == CAPVET_OK) {
-    const bool is_trailing = in->length > framed->length && (in->limits.flags & CAPVET_ALLOW_TRAILING) == 0;
+    const bool is_trailing = in->length > framed->length && in->limits.form == CAPVET_FORM_WHOLE;
     RULE((answer == CAPVET_TRAILING) == is_trailing && (is_trailing || answer == CAPVET_OK || answer >= 16));
     RULE(report->length == framed->length && report->segments == framed->segments);
   } else if (frame != CAPVET_BAD_LIMITS) {
@@ -172,10 +188,10 @@ static capvet_answer check_vet(fuzz_input *in, capvet_answer frame, const capvet
 /* The same message in separate segments. */
 static void check_segments(fuzz_input *in, capvet_answer answer, const capvet_report *report) {
   static capvet_segment segments[CAPVET_MAX_SEGMENTS + 1];
-  size_t offset;
+  read_extents(in);
   for (uint32_t at = 0; at < report->segments; at++) {
-    RULE(capvet_segment_at(in->bytes, in->length, at, &offset, &segments[at].length) == CAPVET_OK);
-    segments[at].bytes = segments[at].length != 0 ? in->bytes + offset : NULL;
+    segments[at].length = extents[at].length;
+    segments[at].bytes = segments[at].length != 0 ? in->bytes + extents[at].offset : NULL;
   }
   capvet_report again, expected = *report;
   const capvet_answer separate = capvet_vet_segments(segments, report->segments, &in->limits, &again);
@@ -214,11 +230,12 @@ static void check_exclusive(fuzz_input *in, capvet_answer answer, const capvet_r
 /* The canonical form of these words, which are one, is the same. */
 static void check_form(const fuzz_input *in, const uint8_t *form, size_t length) {
   capvet_limits limits = in->limits;
-  limits.flags = CAPVET_NO_TABLE | CAPVET_ALLOW_AMPLIFIED;
+  limits.flags = CAPVET_ALLOW_AMPLIFIED;
+  limits.form = CAPVET_FORM_WORDS;
   limits.message_words = limits.message_words > length / 8 ? limits.message_words : length / 8;
   capvet_report report;
   size_t required;
-  RULE(capvet_is_canonical(form, length, &limits, &report) == CAPVET_OK && report.length == length);
+  RULE(capvet_check_canonical_words(form, length, &in->limits, &report) == CAPVET_OK && report.length == length);
   uint8_t *again = fuzz_place(&other, length, in->slack);
   RULE(capvet_canonical(form, length, &limits, again, length, &required, &report) == CAPVET_OK && required == length);
   RULE(memcmp(form, again, length) == 0 && is_untouched_after(again, length, length, in->slack));
@@ -248,15 +265,42 @@ static size_t check_canonical(fuzz_input *in, capvet_answer answer, const capvet
   return required;
 }
 
+/* The first difference of a message that isn't canonical, beside the answer and the report of the check. */
+static void check_difference(const fuzz_input *in, capvet_answer found, const capvet_report *check) {
+  capvet_report first, other;
+  capvet_step steps[CAPVET_MAX_DEPTH];
+  size_t required;
+  RULE(capvet_first_difference(in->bytes, in->length, &in->limits, &first) == found);
+  if (found != CAPVET_NOT_CANONICAL) {
+    RULE(is_equal(&first, check));
+    return;
+  }
+  RULE(strcmp(capvet_difference_name(first.detail), "Unknown") != 0);
+  RULE((first.detail == CAPVET_DIFFERENCE_SEGMENTS) == (first.segments != 1));
+  if (first.detail == CAPVET_DIFFERENCE_SEGMENTS) RULE(first.segment == 0 && first.word == 0 && first.pointers == 0);
+  else RULE(first.segment == 0 && first.word < first.words && first.pointers >= 1 && first.pointers <= check->pointers);
+  if (first.detail == CAPVET_DIFFERENCE_TRAILING) RULE(first.pointers == check->pointers);
+  if (first.detail == CAPVET_DIFFERENCE_CAPABILITY) RULE(first.segment == check->segment && first.word == check->word);
+  if (first.detail > CAPVET_DIFFERENCE_SEGMENTS && first.detail < CAPVET_DIFFERENCE_TRAILING)
+    RULE(capvet_pointer_path(in->bytes, in->length, &in->limits, first.pointers, steps, CAPVET_MAX_DEPTH, &required, &other) == CAPVET_OK);
+  other = *check;
+  other.detail = first.detail;
+  other.segment = first.segment;
+  other.word = first.word;
+  other.pointers = first.pointers;
+  RULE(is_equal(&first, &other));
+}
+
 /* A message is canonical if it has one segment of these bytes, and no others after it. */
 static void check_is_canonical(fuzz_input *in, capvet_answer answer, const capvet_report *report, const uint8_t *form,
                                size_t length) {
   capvet_report again;
-  const capvet_answer found = capvet_is_canonical(in->bytes, in->length, &in->limits, &again);
+  const capvet_answer found = capvet_check_canonical(in->bytes, in->length, &in->limits, &again);
   check_report(in, IS_CANONICAL, found, &again);
+  check_difference(in, found, &again);
   if (answer == CAPVET_TRAILING || answer == CAPVET_BAD_LIMITS) RULE(found == answer && is_equal(report, &again));
   if (found == CAPVET_TRAILING || answer == CAPVET_TRAILING || answer == CAPVET_BAD_LIMITS) return;
-  const size_t table = (in->limits.flags & CAPVET_NO_TABLE) != 0 ? 0 : 8;
+  const size_t table = in->limits.form == CAPVET_FORM_WORDS ? 0 : 8;
   const bool is_form = length != 0 && report->segments == 1 && report->length == table + length &&
                        memcmp(in->bytes + table, form, length) == 0;
   RULE(found == (answer != CAPVET_OK ? answer : is_form ? CAPVET_OK : CAPVET_NOT_CANONICAL));
@@ -404,23 +448,40 @@ static void check_explain(fuzz_input *in, capvet_answer answer, const capvet_rep
   capvet_report again;
   size_t required = 1, sized = 1;
   const capvet_answer asked = capvet_explain(in->bytes, in->length, &in->limits, NULL, 0, &required, &again);
-  check_report(in, EXPLAIN, asked, &again);
-  if (answer < 16) {
-    RULE(asked == (answer == CAPVET_OK ? CAPVET_NO_NODE : answer) && required == 0);
-    RULE(answer == CAPVET_OK ? again.length == report->length && again.pointers == 0 : is_equal(report, &again));
-    return;
-  }
-  RULE(asked == CAPVET_BUFFER_TOO_SMALL && is_equal(report, &again) && required <= CAPVET_EXPLANATION_BOUND);
+  RULE(asked == answer && is_equal(report, &again) && required <= CAPVET_EXPLANATION_BOUND);
+  RULE((required == 0) == (answer == CAPVET_OK || answer == CAPVET_BAD_LIMITS));
+  if (required == 0) return;
   const size_t less = choose(in, required), more = required + choose(in, 40);
   char *text = (char *)fuzz_place(&output, less, in->slack);
-  RULE(capvet_explain(in->bytes, in->length, &in->limits, text, less, &sized, &again) == CAPVET_BUFFER_TOO_SMALL);
+  RULE(capvet_explain(in->bytes, in->length, &in->limits, text, less, &sized, &again) == answer);
   RULE(sized == required && is_untouched_after((uint8_t *)text, 0, less, in->slack));
   text = (char *)fuzz_place(&output, more, in->slack);
-  RULE(capvet_explain(in->bytes, in->length, &in->limits, text, more, &sized, &again) == CAPVET_OK);
+  RULE(capvet_explain(in->bytes, in->length, &in->limits, text, more, &sized, &again) == answer);
   RULE(sized == required && is_equal(report, &again));
   RULE(is_untouched_after((uint8_t *)text, required, more, in->slack));
   check_explanation(text, required);
   if (report->pointers != 0) check_path_line(in, report, text);
+}
+
+/* An overlap is explained, in a buffer of just its length or of a longer one. So is any other pointer that a verdict names. */
+static void check_overlap(fuzz_input *in, const capvet_report *report) {
+  capvet_report again;
+  size_t required = 1, sized = 1;
+  const uint64_t number = report->pointers;
+  const capvet_answer asked = capvet_explain_overlap(in->bytes, in->length, &in->limits, report->segment, report->word, number, NULL, 0,
+                                                     &required, &again);
+  RULE((asked == CAPVET_BUFFER_TOO_SMALL) == (required != 0) && required <= CAPVET_OVERLAP_BOUND);
+  if (required == 0) return;
+  const size_t less = choose(in, required), more = required + choose(in, 40);
+  char *text = (char *)fuzz_place(&output, less, in->slack);
+  RULE(capvet_explain_overlap(in->bytes, in->length, &in->limits, report->segment, report->word, number, text, less, &sized, &again) ==
+       CAPVET_BUFFER_TOO_SMALL);
+  RULE(sized == required && is_untouched_after((uint8_t *)text, 0, less, in->slack));
+  text = (char *)fuzz_place(&output, more, in->slack);
+  RULE(capvet_explain_overlap(in->bytes, in->length, &in->limits, report->segment, report->word, number, text, more, &sized, &again) ==
+       CAPVET_OK);
+  RULE(sized == required && is_untouched_after((uint8_t *)text, required, more, in->slack));
+  check_path_line(in, report, text);
 }
 
 /* Unpacking gives the words that were packed. */
@@ -428,26 +489,26 @@ static void check_pack(fuzz_input *in) {
   const size_t whole = in->length / 8 * 8, bound = CAPVET_PACK_BOUND(whole);
   size_t required = 1, sized = 1;
   if (in->length != whole) {
-    RULE(capvet_pack(in->bytes, in->length, NULL, 0, &required) == CAPVET_TRUNCATED && required == 0);
+    RULE(capvet_pack_words(in->bytes, in->length, NULL, 0, &required) == CAPVET_TRUNCATED && required == 0);
   }
-  RULE(capvet_pack(in->bytes, whole, NULL, 0, &required) == (whole != 0 ? CAPVET_BUFFER_TOO_SMALL : CAPVET_OK));
+  RULE(capvet_pack_words(in->bytes, whole, NULL, 0, &required) == (whole != 0 ? CAPVET_BUFFER_TOO_SMALL : CAPVET_OK));
   RULE(required <= bound && bound == capvet_pack_bound(whole));
   const size_t less = choose(in, required), more = required + choose(in, 20);
   uint8_t *packed = fuzz_place(&output, less, in->slack);
-  RULE(required == 0 || capvet_pack(in->bytes, whole, packed, less, &sized) == CAPVET_BUFFER_TOO_SMALL);
+  RULE(required == 0 || capvet_pack_words(in->bytes, whole, packed, less, &sized) == CAPVET_BUFFER_TOO_SMALL);
   RULE(is_untouched_after(packed, 0, less, in->slack));
   packed = fuzz_place(&output, more, in->slack);
-  RULE(capvet_pack(in->bytes, whole, packed, more, &sized) == CAPVET_OK && sized == required);
+  RULE(capvet_pack_words(in->bytes, whole, packed, more, &sized) == CAPVET_OK && sized == required);
   RULE(is_untouched_after(packed, required, more, in->slack));
   uint8_t *again = fuzz_place(&other, whole, in->slack);
-  RULE(capvet_unpack(packed, required, again, whole, &sized) == CAPVET_OK && sized == whole);
+  RULE(capvet_unpack_words(packed, required, again, whole, &sized) == CAPVET_OK && sized == whole);
   RULE(memcmp(again, in->bytes, whole) == 0 && is_untouched_after(again, whole, whole, in->slack));
 }
 
 /* Any bytes as packed words. Packed again, they are the same words. */
 static void check_unpack(fuzz_input *in) {
   size_t required = 1, sized = 1, packed;
-  const capvet_answer answer = capvet_unpack(in->bytes, in->length, NULL, 0, &required);
+  const capvet_answer answer = capvet_unpack_words(in->bytes, in->length, NULL, 0, &required);
   reached_answer(UNPACK, answer);
   reached_number(11, required);
   RULE(answer == CAPVET_OK || answer == CAPVET_BUFFER_TOO_SMALL || answer == CAPVET_TRUNCATED);
@@ -455,14 +516,14 @@ static void check_unpack(fuzz_input *in) {
   if (required == 0 || required > OUT_MOST / 16) return;
   const size_t less = choose(in, required), more = required + choose(in, 20);
   uint8_t *words = fuzz_place(&output, less, in->slack);
-  RULE(capvet_unpack(in->bytes, in->length, words, less, &sized) == CAPVET_BUFFER_TOO_SMALL && sized == required);
+  RULE(capvet_unpack_words(in->bytes, in->length, words, less, &sized) == CAPVET_BUFFER_TOO_SMALL && sized == required);
   RULE(is_untouched_after(words, 0, less, in->slack));
   words = fuzz_place(&output, more, in->slack);
-  RULE(capvet_unpack(in->bytes, in->length, words, more, &sized) == CAPVET_OK && sized == required);
+  RULE(capvet_unpack_words(in->bytes, in->length, words, more, &sized) == CAPVET_OK && sized == required);
   RULE(is_untouched_after(words, required, more, in->slack));
   uint8_t *again = fuzz_place(&other, CAPVET_PACK_BOUND(required), 0);
-  RULE(capvet_pack(words, required, again, CAPVET_PACK_BOUND(required), &packed) == CAPVET_OK);
-  RULE(capvet_unpack(again, packed, NULL, 0, &sized) == CAPVET_BUFFER_TOO_SMALL && sized == required);
+  RULE(capvet_pack_words(words, required, again, CAPVET_PACK_BOUND(required), &packed) == CAPVET_OK);
+  RULE(capvet_unpack_words(again, packed, NULL, 0, &sized) == CAPVET_BUFFER_TOO_SMALL && sized == required);
 }
 
 /* What unpacking a stream finds: the frames, the answer at its end, and the state. */
@@ -580,7 +641,7 @@ static void check_pack_message(fuzz_input *in, capvet_answer frame, const capvet
   const capvet_answer asked = capvet_pack_message(in->bytes, in->length, &in->limits, NULL, 0, &required, &report);
   check_report(in, PACK_MESSAGE, asked, &report);
   const bool is_trailing =
-      frame == CAPVET_OK && framed->length < in->length && (in->limits.flags & CAPVET_ALLOW_TRAILING) == 0;
+      frame == CAPVET_OK && framed->length < in->length && in->limits.form == CAPVET_FORM_WHOLE;
   RULE(asked == (frame != CAPVET_OK ? frame : is_trailing ? CAPVET_TRAILING : CAPVET_BUFFER_TOO_SMALL));
   if (asked != CAPVET_BUFFER_TOO_SMALL) return;
   RULE(required <= CAPVET_PACK_BOUND(framed->length) && is_equal(framed, &report));
@@ -623,7 +684,7 @@ int LLVMFuzzerTestOneInput(const uint8_t *data, size_t size) {
   capvet_report framed, report;
   uint8_t *form = NULL;
   const capvet_answer frame = check_frame(&in, &framed);
-  if (frame == CAPVET_OK) check_segments_at(&in, &framed);
+  if (frame == CAPVET_OK) check_extents(&in, &framed);
   const capvet_answer answer = check_vet(&in, frame, &framed, &report);
   if (frame == CAPVET_OK) check_segments(&in, answer, &report);
   check_exclusive(&in, answer, &report);
@@ -631,6 +692,7 @@ int LLVMFuzzerTestOneInput(const uint8_t *data, size_t size) {
   check_is_canonical(&in, answer, &report, form, length);
   check_paths(&in, answer);
   check_explain(&in, answer, &report);
+  if (answer >= CAPVET_NOT_CANONICAL && report.pointers != 0) check_overlap(&in, &report);
   check_texts(&in);
   check_pack(&in);
   check_unpack(&in);

@@ -3,7 +3,7 @@
  *
  * An input is 16 bytes of arguments, and then the bytes of a message or of a stream. Arguments of 0 are the defaults.
  *
- *   - Byte 0 has the flags of the limits. Bit 4 is an unknown flag, and bit 5 sets a reserved field.
+ *   - Byte 0 has the form and the flags of the limits. Bits 0 and 3 are the form, bit 4 is an unknown flag, and bit 5 sets a reserved field.
  *   - Byte 1 says in bits 0 to 2 how far the bytes end before the page. The other bits choose a kind of test.
  *   - Bytes 2 and 3 are the depth limit and 1 more.
  *   - Bytes 4 to 7 are the limit of words of a message and 1 more.
@@ -65,7 +65,8 @@ static inline bool fuzz_read(fuzz_input *in, const uint8_t *data, size_t size) {
   if (size < ARGUMENTS) return false;
   const capvet_limits limits = CAPVET_LIMITS_INIT;
   in->limits = limits;
-  in->limits.flags = data[0] & 31u;
+  in->limits.form = (data[0] & 1u) | (data[0] >> 2 & 2u);
+  in->limits.flags = (data[0] >> 1 & 3u) | (data[0] >> 2 & 4u);
   in->limits.reserved[0] = data[0] >> 5 & 1;
   in->slack = data[1] & 7;
   in->kind = data[1] >> 3;
@@ -131,7 +132,7 @@ static inline bool is_untouched_after(const uint8_t *place, size_t length, size_
  * archive answers, which is built without its counters. */
 __attribute__((used, section("__libfuzzer_extra_counters"))) static uint8_t fuzz_counters[2][32][64];
 
-static inline void reached_answer(unsigned call, capvet_answer answer) { fuzz_counters[0][call & 31][answer & 63]++; }
+static inline void reached_answer(unsigned call, capvet_answer answer) { fuzz_counters[0][call & 31][(uint32_t)answer & 63]++; }
 
 static inline void reached_number(unsigned kind, uint64_t number) {
   fuzz_counters[1][kind & 31][number == 0 ? 0 : 63 - __builtin_clzll(number)]++;

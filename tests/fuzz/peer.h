@@ -13,6 +13,8 @@
 
 namespace {
 
+using capvet::detail::valueOf;
+
 const kj::StringPtr FAILURE = "the connection failed";
 
 // What comes after the bytes: the end, a failure, or nothing. The last one is a peer that reads nothing.
@@ -26,16 +28,26 @@ struct Model {
   capvet_answer answer = CAPVET_OK;
   capvet_report report = {};
 
-  // The refusal of what comes after the messages, where a peer ends so.
-  capvet::Refusal refusal(End end) const {
+  // Why a connection is ended by what comes after the messages, where a peer ends so.
+  capvet::Cause cause(End end) const {
+    const bool isCut = answer == CAPVET_TRUNCATED;
+    return !isCut ? capvet::Cause::REFUSED : end == STALLS ? capvet::Cause::LATE : capvet::Cause::CUT;
+  }
+
+  // The text of it.
+  kj::String textOf(End end) const {
     capvet::Refusal refusal;
     refusal.answer = answer;
     refusal.report = report;
-    const bool isCut = answer == CAPVET_TRUNCATED;
-    refusal.cause = !isCut ? capvet::Cause::MESSAGE : end == STALLS ? capvet::Cause::LATE : capvet::Cause::CUT;
-    return refusal;
+    return kj::str(capvet::Ended(cause(end), refusal));
   }
 };
+
+// Whether a stream refuses these limits.
+bool isBad(const capvet_limits &limits) {
+  capvet_report report;
+  return capvet::detail::haveForm(limits) || capvet_frame(nullptr, 0, &limits, &report) == CAPVET_BAD_LIMITS;
+}
 
 Model modelOf(kj::ArrayPtr<const kj::byte> bytes, const capvet_limits &limits) {
   Model model;
@@ -170,6 +182,23 @@ class Quiet final : public kj::ExceptionCallback {
   StackTraceMode stackTraceMode() override { return StackTraceMode::NONE; }
   void logMessage(kj::LogSeverity, const char *, int, int, kj::String &&) override {}
 };
+
+// Whether something waits for a time that has come.
+bool isDue(kj::TimerImpl &timer) {
+  auto next = timer.nextEvent();
+  auto *time = valueOf(next);
+  return time != nullptr && *time <= timer.now();
+}
+
+// Whether a promise is done when a loop has done all that it can. It looks at its clock then, as by an event port.
+template <typename Type>
+bool isDoneNow(kj::Promise<Type> &promise, kj::TimerImpl &timer, kj::WaitScope &scope) {
+  while (!promise.poll(scope)) {
+    if (!isDue(timer)) return false;
+    timer.advanceTo(timer.now());
+  }
+  return true;
+}
 
 }  // namespace
 #endif

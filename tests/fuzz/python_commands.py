@@ -8,10 +8,12 @@
 """
 import contextlib
 import csv
+import dataclasses
 import io
 import json
 import math
 import os
+import re
 import signal
 import sys
 import tempfile
@@ -87,11 +89,11 @@ def ran(*words, out=io.StringIO, err=io.StringIO):
     return (status, *(it.getvalue() if it else "" for it in (out, err)))
 
 
-def seen(data, packed, limits, exclusive=False):
+def seen(data, packed, limits):
     """The messages of a stream, and the error at its end."""
     found = []
     try:
-        for it in capvet.read_messages(io.BytesIO(data), packed=packed, limits=limits, exclusive=exclusive):
+        for it in capvet.read_messages(io.BytesIO(data), packed=packed, limits=limits):
             found.append(it)
     except capvet.FrameError as error:
         return found, error
@@ -105,7 +107,7 @@ def check_nodes(message, found):
         if not left:
             return
         one = left.pop()
-        node = capvet.node(message.raw, one["path"], limits=capvet.Limits(allow_nonstrict=True, allow_amplified=True, depth=256))
+        node = message.get(one["path"])
         assert node.kind == one["kind"] and node.text() in (None, one.get("text_guess"))
         assert one["kind"] != "struct" or len(one["data"]) == node.data_words
         assert one.get("count", node.count) == node.count and one.get("index", 0) == node.capability
@@ -114,15 +116,15 @@ def check_nodes(message, found):
 
 def check_tree(file, data, packed, limits, words):
     found, end = seen(data, packed, limits)
-    refused = end is not None or any(it.refusal for it in found)
+    refused = end is not None or any(isinstance(it, capvet.Refusal) for it in found)
     status, text, said = ran("tree", *words, file)
     assert (status, text) == (int(refused), "".join("".join(tree.text_lines(it)) for it in found)) and bool(said) == (end is not None)
     status, text, _ = ran("tree", "--json", *words, file)
     lines = text.splitlines()
     assert status == int(refused) and len(lines) == len(found)
     for it, line in zip(found, map(json.loads, lines)):
-        assert line["accepted"] == (it.report is not None) and line["offset"] == it.offset
-        if it.report:
+        assert line["accepted"] == isinstance(it, capvet.Message) and line["offset"] == it.offset
+        if isinstance(it, capvet.Message):
             check_nodes(it, line)
 
 
@@ -166,18 +168,18 @@ def summed(parts):
     return tally, "".join(part.rows for part in parts)
 
 
-def check_vet(files, data, packed, limits, exclusive, form, most_rows):
+def check_vet(files, data, packed, limits, form, most_rows):
     """The parts of one process, over the same file and one that isn't there."""
-    tally, rows = summed(worked(files, vetting.How(packed, exclusive, limits, form), most_rows))
-    found, end = seen(data, packed, limits, exclusive)
-    refused = [it for it in found if it.refusal]
+    tally, rows = summed(worked(files, vetting.How(packed, limits, form), most_rows))
+    found, end = seen(data, packed, limits)
+    refused = [it for it in found if isinstance(it, capvet.Refusal)]
     assert (tally.files, tally.messages, tally.accepted) == (2, len(found), len(found) - len(refused))
     assert sum(tally.refused.values()) == len(refused) and sum(tally.failed.values()) == 1
     assert dict(tally.stopped) == ({end.reason: 1} if end else {})
     lines = list(csv.reader(io.StringIO(rows))) if form == "csv" else [list(json.loads(line).values()) for line in rows.splitlines()]
     assert len(lines) == (len(refused) + bool(end) + 1 if form else 0)
     for it, line in zip(refused, lines):
-        assert [str(word) for word in line[1:5]] == [str(it.number), str(it.offset), it.refusal.reason, str(it.refusal.segment)]
+        assert [str(word) for word in line[1:5]] == [str(it.number), str(it.offset), it.reason, str((it.position or (0,))[0])]
     assert vetting.summary(tally).startswith(f"files 2 bytes {tally.bytes} messages {len(found)} ")
 
 
@@ -189,7 +191,7 @@ def check_map(file, data, packed, limits, words, folder):
     mapping.PAGE.write_text("<p><!--given--></p>")
     if len(found) > 1:
         status, _, said = ran("map", "-o", page, "--message", 1, *words, file)
-        assert page.read_text().startswith("<p><script") and status == int(bool(found[1].refusal)) and not said
+        assert page.read_text().startswith("<p><script") and status == int(isinstance(found[1], capvet.Refusal)) and not said
     else:
         assert status == 1 and said
 
@@ -226,7 +228,7 @@ def check_ends(file, words):
     # (nothing is written to it any more)
     assert os.fstat(out.fileno()).st_rdev == os.stat(os.devnull).st_rdev
     status, text, said = ran("vet", *words, file, err=Terminal(KeyboardInterrupt, writes=0, times=1))
-    assert (status, text) == (130, "") and said in [f"capvet: stopped after {number} files\n" for number in range(2)]
+    assert (status, text) == (130, "") and re.fullmatch(r"capvet: stopped after [01] files, \d+ messages and \d+ bytes\n", said)
     assert ran("vet", *words, file, out=Terminal(KeyboardInterrupt, writes=0, times=1))[0] == 130
     with mock.patch.object(sys, "stdin", None):
         assert ran("tree") == (3, "", "capvet: standard input is closed\n")
@@ -244,15 +246,15 @@ def check_killed(file, words, chance):
     lost, way, most = str(chance.choice(names)), chance.choice(("at", "inside", "after")), chance.choice((1, vetting._MOST_FILES))
     vet, vet_file, send = vetting._Run.vet, vetting._Run.vet_file, vetting._Run.send
 
-    def vet_or_end(run, given):
-        vet(run, given)
+    def vet_or_end(run, names, given):
+        vet(run, names, given)
         if way == "after":
             run.connection.close()
             os._exit(1)
 
-    def file_or_end(run, name):
+    def file_or_end(run, name, given):
         run.is_at_lost = name == lost
-        return os._exit(9) if run.is_at_lost and way == "at" else vet_file(run, name)
+        return os._exit(9) if run.is_at_lost and way == "at" else vet_file(run, name, given)
 
     def send_or_end(run, is_inside, is_idle):
         send(run, is_inside, is_idle)
@@ -275,9 +277,9 @@ def check_killed(file, words, chance):
 
 def check(data, limits, chance):
     """The rules of the commands for one input. Few inputs run commands with other processes."""
-    if limits.no_table or len(data) > 1 << 13:
+    if len(data) > 1 << 13:
         return
-    packed, exclusive = chance.randrange(2) == 0, chance.randrange(2) == 0
+    packed, exclusive = chance.randrange(2) == 0, dataclasses.replace(limits, exclusive=chance.randrange(2) == 0)
     words = words_of(limits) + ["--packed"] * packed
     with tempfile.TemporaryDirectory() as name:
         folder = Path(name)
@@ -285,7 +287,7 @@ def check(data, limits, chance):
         file.write_bytes(data)
         if len(seen(data, packed, limits)[0]) < NODES:
             check_tree(file, data, packed, limits, words)
-            check_vet((file, folder / "none"), data, packed, limits, exclusive, chance.choice((None, "csv", "json")),
+            check_vet((file, folder / "none"), data, packed, exclusive, chance.choice((None, "csv", "json")),
                       chance.choice((1, 1 << 16)))
             check_map(file, data, packed, limits, words, folder)
         if chance.randrange(50) == 0:

@@ -8,10 +8,10 @@ Without SECONDS each input of the corpus runs once. An input is 16 bytes of argu
 The last line is 'Done N runs'. A broken rule is an AssertionError, with the smallest input that hypothesis finds.
 
 - What is accepted is accepted by just the limits that it needs, and in separate segments.
-- Streams give the same messages from a buffer, from a file, from a feed, and packed, in pieces of any size.
-- `nodes` gives what `node` gives.
+- Streams give the same messages from a buffer, all at once, from a file, from a coroutine, from a feed, and packed, in pieces of any size.
+- `peek_range` and the getters of vetted messages give what `peek` gives.
 - The canonical form of a canonical form is the same, and unpacking gives what was packed.
-- Each refusal is explained, with its path, and nothing else is.
+- Each refusal is explained, with its path.
 - What is pickled is the same afterwards, and so is the path of a refusal.
 - The commands of `python -m capvet` say the same: see python_commands.py.
 """
@@ -40,16 +40,16 @@ runs = 0
 
 
 def limits_of(data):
-    """The limits of an input, or None if the package refuses them."""
+    """The limits of an input, and the call that vets it. None if the package refuses the numbers, or has no such call."""
     flags, depth, words, charge = data[0], *struct.unpack_from("<HII", data, 2)
     is_amplified = bool(flags & 4)
     charge = charge - 1 if charge else 8388608
     numbers = dict(depth=depth - 1 if depth else 64, message_words=words - 1 if words else 8388608,
                    charge=min(charge, 1 << 16) if is_amplified else charge)
-    flags = dict(allow_trailing=bool(flags & 1), allow_nonstrict=bool(flags & 2), allow_amplified=is_amplified, no_table=bool(flags & 8))
+    calls = {0: capvet.vet, 1: lambda data, limits: capvet.vet_prefix(data, limits=limits)[0], 8: capvet.vet_words}
     try:
-        return capvet.Limits(**numbers, **flags)
-    except ValueError:
+        return capvet.Limits(**numbers, allow_nonstrict=bool(flags & 2), allow_amplified=is_amplified), calls[flags & 9]
+    except (ValueError, KeyError):
         return None
 
 
@@ -74,10 +74,10 @@ def check_arguments(data, limits, chance):
     wrong, kind = chance.choice((
         (lambda: capvet.vet(7, limits=limits), TypeError), (lambda: capvet.vet(data, limits=7), TypeError),
         (lambda: capvet.Limits(depth=True), TypeError), (lambda: capvet.Limits(depth=-1), ValueError),
-        (lambda: capvet.Limits(no_table=1), TypeError), (lambda: capvet.Limits(no_table=True, allow_trailing=True), ValueError),
-        (lambda: capvet.node(data, b"/"), TypeError), (lambda: capvet.nodes(data, "/p*", first=-1), ValueError),
-        (lambda: capvet.nodes(data, "/p*", count="1"), TypeError), (lambda: capvet.read_messages(data), TypeError),
-        (lambda: capvet.messages(data, limits=capvet.Limits(no_table=True)), ValueError)))
+        (lambda: capvet.Limits(exclusive=1), TypeError), (lambda: capvet.Limits(1, 2), TypeError), (capvet.Message, TypeError),
+        (lambda: capvet.peek(data, b"/"), TypeError), (lambda: capvet.peek_range(data, "/p*", first=-1), ValueError),
+        (lambda: capvet.peek_range(data, "/p*", count="1"), TypeError), (lambda: capvet.read_messages(data), TypeError),
+        (lambda: capvet.frame(data, message_words=-1), ValueError)))
     found = raised(wrong)
     assert isinstance(found, kind) and not isinstance(found, capvet.CapvetError)
 
@@ -87,55 +87,52 @@ def is_error(it):
 
 
 def same(one, other):
-    """Whether two results are equal: the same values, or exceptions of the same text."""
+    """Whether two results are equal: the same values, messages of the same bytes, or exceptions of the same text."""
+    if isinstance(one, capvet.Message) and isinstance(other, capvet.Message):
+        return one.data == other.data and one.report == other.report
     return str(one) == str(other) if is_error(one) or is_error(other) else one == other
 
 
-def check_verdict(data, limits):
-    report = result(capvet.vet, data, limits=limits)
-    exclusive = result(capvet.vet_exclusive, data, limits=limits)
-    assert is_error(exclusive) or same(report, exclusive)
-    assert same(report, result(capvet.vet, memoryview(bytearray(data)), limits=limits))
-    frame = result(capvet.frame, data, limits=limits)
-    if not is_error(frame) and not isinstance(report, capvet.FrameError):
+def check_verdict(data, limits, vet):
+    message = result(vet, data, limits=limits)
+    exclusive = result(vet, data, limits=dataclasses.replace(limits, exclusive=True))
+    assert is_error(exclusive) or same(message, exclusive)
+    assert same(message, result(vet, memoryview(bytearray(data)), limits=limits))
+    frame = result(capvet.frame, data, message_words=limits.message_words)
+    if vet is not capvet.vet_words and not is_error(frame) and not isinstance(message, capvet.FrameError):
         separate = result(capvet.vet_segments, [data[at:at + size] for at, size in frame.segments], limits=limits)
-        assert same(separate, report) if is_error(report) else separate.charge == report.charge
-    check_explained(data, limits, report)
-    if is_error(report):
-        check_refusal(data, limits, report)
-        return report
-    tight = dataclasses.replace(limits, charge=report.charge, depth=report.depth)
-    assert same(report, result(capvet.vet, data, limits=tight))
-    if not limits.no_table:
-        assert frame.length == report.length and len(frame.segments) == report.segments
-    return report
+        # (their table has zeros where that of the message may have other padding)
+        assert same(separate, message) if is_error(message) else separate.report == message.report
+    if is_error(message):
+        check_refusal(data, limits, message)
+        check_refusal(data, limits, exclusive)
+        return message
+    tight = dataclasses.replace(limits, message_words=message.report.words, charge=message.report.charge, depth=message.report.depth)
+    assert same(message, result(vet, data, limits=tight)) and pickle.loads(pickle.dumps(message)).data == message.data
+    assert message.report.length == len(message.data) and message.report.words == sum(map(len, message.segments)) // 8
+    if vet is not capvet.vet_words:
+        assert frame.length == message.report.length and len(frame.segments) == message.report.segments
+    return message
 
 
 def check_refusal(data, limits, error):
-    """The path of a refusal leads to what is refused."""
+    """The path of a refusal leads to what is refused, and its lines explain it."""
     if not isinstance(error, capvet.Refusal):
         return
     kept = pickle.loads(pickle.dumps(error))
-    assert error and vars(kept) == vars(error) and str(error.position) == f"{error.segment}:{error.word}"
-    path = result(error.path, data, limits=limits)
-    if path is not None and not is_error(path) and not limits.no_table:
-        found = result(capvet.node, data, path, limits=limits)
+    assert (str(kept), kept.path, kept.unvetted) == (str(error), error.path, error.unvetted) and data.startswith(error.unvetted)
+    assert (error.path is None) == (error.pointer is None) == (error.position is None)
+    if error.path is not None:
+        found = result(capvet.peek, data, error.path, limits=limits)
         # (other reasons than those of a pointer come later)
-        assert not isinstance(found, capvet.PathError), path
-
-
-def check_explained(data, limits, report):
-    """A refusal is explained, with its path, and nothing else is."""
-    lines = result(capvet.explain, data, limits=limits)
-    if not isinstance(report, capvet.Refusal):
-        assert same(lines, report if is_error(report) else None)
-        return
-    path = report.path(data, limits=limits)
-    assert lines.startswith("  " if path is None else f"  path {path}\n") and lines.endswith("\n")
+        assert not isinstance(found, capvet.PathError), error.path
+    lines = error.explain()
+    assert lines.startswith("  " if error.path is None else f"  path {error.path}\n") and lines.endswith("\n")
     place = re.search(r"^  byte (\d+) of the message\n  pointer (\w{16}) ", lines, re.M)
     assert place is None or bytes(data[int(place[1]):][:8]).hex() == place[2]
     *before, last = lines.splitlines()
-    assert all(line.startswith("  ") and line.isascii() for line in before) and last.startswith("  reason ")
+    assert all(line.startswith("  ") and line.isascii() for line in before)
+    assert last.startswith(("  reason ", "  first used by ") if error.reason == "Overlap" else "  reason ")
 
 
 def check_buffers(data, limits):
@@ -150,16 +147,20 @@ def check_buffers(data, limits):
             assert same(report, result(capvet.vet, other, limits=limits))
 
 
-def check_canonical(data, limits, report):
-    form = result(capvet.canonical, data, limits=limits)
-    is_canonical = result(capvet.is_canonical, data, limits=limits)
-    if is_error(form):
-        assert is_error(report) or (isinstance(form, capvet.CapabilityError) and form.report == report)
+def check_canonical(limits, message):
+    if is_error(message):
         return
-    assert is_error(is_canonical) or not is_canonical or data.endswith(form)
-    words = dataclasses.replace(limits, no_table=True, allow_amplified=True, allow_trailing=False, allow_nonstrict=False,
-                                message_words=max(limits.message_words, len(form) // 8))
-    assert capvet.canonical(form, limits=words) == form and capvet.is_canonical(form, limits=words)
+    first = message.first_difference()
+    assert (first is None) == message.is_canonical()
+    assert first is None or (first.path is None) == (first.reason in ("Segments", "Trailing"))
+    form = result(message.canonical)
+    if is_error(form):
+        assert isinstance(form, capvet.CapabilityError) and form.report == message.report and not message.is_canonical()
+        return
+    assert not message.is_canonical() or bytes(message.data).endswith(form)
+    assert capvet.is_canonical_words(form, limits=limits)
+    words = dataclasses.replace(limits, allow_amplified=True, message_words=max(limits.message_words, len(form) // 8))
+    assert capvet.vet_words(form, limits=words).canonical() == form
 
 
 def seen(messages):
@@ -169,11 +170,11 @@ def seen(messages):
         for it in messages:
             if len(found) == MESSAGES:
                 return found, "more"
-            assert (it.data is None) == (it.refusal is not None) and it.raw is not None
+            data = it.unvetted if is_error(it) else it.data
             if not found:
                 kept = pickle.loads(pickle.dumps(it))
-                assert kept.raw == it.raw and (kept.data is None) == (it.data is None) and kept.report == it.report
-            found.append((it.number, bytes(it.raw), str(it.refusal or it.report)))
+                assert (kept.unvetted if is_error(it) else kept.data) == data and type(kept) is type(it)
+            found.append((it.number, bytes(data), str(it if is_error(it) else it.report)))
     except capvet.FrameError as error:
         return found, error.reason
     return found, None
@@ -230,19 +231,20 @@ def fed(data, chance, **options):
 
 
 def check_streams(data, limits, chance):
-    options = dict(exclusive=chance.randrange(2) == 0, limits=limits)
-    if limits.no_table:
-        assert is_error(result(capvet.MessageFeed, **options))
-        return
+    options = dict(limits=dataclasses.replace(limits, exclusive=chance.randrange(2) == 0))
     expected = seen(capvet.messages(data, **options))
-    assert expected == seen(again(capvet.read_messages(Pieces(data, chance), **options)))
+    at_once = result(capvet.vet_all, data, **options)
+    assert is_error(at_once) == (expected[1] not in (None, "more")) or expected[1] == "more"
+    assert is_error(at_once) or seen(at_once) == expected
+    assert expected == seen(received(Pieces(data, chance), **options))
+    assert expected == seen(again(capvet.read_messages(Pieces(data, chance), read_ahead=chance.randrange(2) == 0, **options)))
     assert expected == seen(again(capvet.read_messages(io.BufferedReader(Pieces(data, chance), 16), **options)))
     assert expected == seen(fed(data, chance, **options))
     left = capvet.MessageFeed(**options)
     left.feed(data)
     assert not expected[0] or "were not read" in str(raised(left.close))
     # (any bytes as a packed stream, and this stream packed)
-    for packed in (data, capvet.pack(data[:len(data) // 8 * 8])):
+    for packed in (data, capvet.pack_words(data[:len(data) // 8 * 8])):
         one = seen(capvet.read_messages(io.BytesIO(packed), packed=True, **options))
         assert one == seen(again(capvet.read_messages(Pieces(packed, chance), packed=True, **options)))
         assert one == seen(fed(packed, chance, packed=True, **options))
@@ -250,52 +252,83 @@ def check_streams(data, limits, chance):
     assert one[0] == expected[0] and (one[1] == expected[1] or len(data) % 8 > 0)
 
 
-def check_nodes(data, limits, chance, report):
+def received(file, **options):
+    """The messages of a coroutine that reads a file."""
+    class Reader:
+        async def read(self, size):
+            while True:
+                try:
+                    if (piece := file.read(size)) is not None:
+                        return piece
+                except TimeoutError:
+                    pass
+
+    messages = capvet.async_read_messages(Reader(), **options)
+    while True:
+        try:
+            # (no step waits)
+            messages.__anext__().send(None)
+        except StopIteration as step:
+            yield step.value
+        except StopAsyncIteration:
+            return
+
+
+def check_nodes(data, limits, chance, message):
     path = ""
     for _ in range(5):
-        found = result(capvet.node, data, path or "/", limits=limits)
-        assert is_error(report) or not is_error(found) or limits.no_table
+        found = result(capvet.peek, data, path or "/", limits=limits)
+        assert is_error(message) or not is_error(found) and same(found, message.get(path or "/"))
         if is_error(found) or found is None:
             return
         assert found.offset + len(found.data) <= len(data)
         assert pickle.loads(pickle.dumps(found)) == found and (found.text() is None or found.text().encode() + b"\0" == found.data)
-        beyond = capvet.nodes(data, f"{path}/p{found.pointers}/i*", limits=limits)
+        beyond = capvet.peek_range(data, f"{path}/p{found.pointers}/i*", limits=limits)
         assert found.kind != "struct" or result(list, beyond) == []
         letter = "p" if found.kind == "struct" else "i"
         first, rest = chance.randrange(3), chance.choice(("", "", "/p0", "/i1"))
-        iterator = result(capvet.nodes, data, f"{path}/{letter}*{rest}", first=first, count=chance.choice((5, None)), limits=limits)
+        iterator = result(capvet.peek_range, data, f"{path}/{letter}*{rest}", first=first, count=chance.choice((5, None)), limits=limits)
         for number, node in enumerate(iterator, first):
-            one = result(capvet.node, data, f"{path}/{letter}{number}{rest}", limits=limits)
+            one = result(capvet.peek, data, f"{path}/{letter}{number}{rest}", limits=limits)
             assert same(one, node)
             if number > 600:
                 break
         path += f"/{letter}{chance.randrange(6)}"
 
 
-def check_nodes_or_refusal(data, limits, chance, report):
+def check_nodes_or_refusal(data, limits, chance, message, vet):
+    # (`peek` takes a message with its table and nothing after it)
+    if not is_error(message):
+        data = framed(data) if vet is capvet.vet_words else bytes(message.data)
+        message = capvet.vet(data, limits=limits)
     try:
-        check_nodes(data, limits, chance, report)
+        check_nodes(data, limits, chance, message)
     except capvet.CapvetError as error:
-        assert is_error(report) or limits.no_table, error
+        assert is_error(message), error
     text = data[:chance.randrange(12)].decode("latin-1") + chance.choice(("", "/p0", "/i*", "*/p1"))
-    for call in (capvet.node, capvet.nodes):
+    for call in (capvet.peek, capvet.peek_range):
         found = result(call, data, text, limits=limits)
         assert not isinstance(found, capvet.PathError) or found.position <= len(text.encode())
 
 
+def framed(words):
+    """The message of one segment of these words."""
+    return struct.pack("<II", 0, len(words) // 8) + words
+
+
 def check_packing(data, limits):
     words = data[:len(data) // 8 * 8]
-    assert capvet.unpack(capvet.pack(words)) == words
+    assert capvet.unpack_words(capvet.pack_words(words)) == words
     for wrong in ("8", None, 1.5):
-        assert isinstance(raised(capvet.unpack, data, max_size=wrong), TypeError)
+        assert isinstance(raised(capvet.unpack_words, data, max_size=wrong), TypeError)
     if words != data:
-        assert is_error(result(capvet.pack, data))
-    unpacked = result(capvet.unpack, data, max_size=MOST)
-    assert is_error(unpacked) or (len(unpacked) <= MOST and capvet.unpack(capvet.pack(unpacked)) == unpacked)
-    message = result(capvet.pack_message, data, limits=limits)
+        assert is_error(result(capvet.pack_words, data))
+    unpacked = result(capvet.unpack_words, data, max_size=MOST)
+    assert is_error(unpacked) or (len(unpacked) <= MOST and capvet.unpack_words(capvet.pack_words(unpacked)) == unpacked)
+    message = result(capvet.pack_message, data, message_words=limits.message_words)
     if not is_error(message):
-        frame = capvet.frame(data, limits=limits)
-        assert len(capvet.unpack(message)) == frame.length
+        frame = capvet.frame(data, message_words=limits.message_words)
+        assert len(capvet.unpack_words(message)) == frame.length
 
 
 def check(data):
@@ -304,13 +337,14 @@ def check(data):
     runs += 1
     if len(data) < ARGUMENTS or len(data) > 1 << 16:
         return
-    limits, chance, data = limits_of(data), random.Random(data[12:ARGUMENTS]), data[ARGUMENTS:]
-    if limits is None:
+    found, chance, data = limits_of(data), random.Random(data[12:ARGUMENTS]), data[ARGUMENTS:]
+    if found is None:
         return
-    report = check_verdict(data, limits)
-    check_canonical(data, limits, report)
+    limits, vet = found
+    message = check_verdict(data, limits, vet)
+    check_canonical(limits, message)
     check_streams(data, limits, chance)
-    check_nodes_or_refusal(data, limits, chance, report)
+    check_nodes_or_refusal(data, limits, chance, message, vet)
     check_packing(data, limits)
     check_buffers(data, limits)
     check_arguments(data, limits, chance)

@@ -4,7 +4,7 @@
  * - A connection is served unless there are as many as a limit allows, of all or of its address. Others are closed at once.
  * - After a failure of the listener it is asked again, a tenth of a second later.
  * - The counters are what was seen. A refusal is reported once, with the peer, and it is that of capvet_frame and capvet_vet.
- * - A peer that has ended, that sends what is refused or that reads nothing is gone in time, and no other one is.
+ * - A peer that has ended, that sends what is refused, that reads nothing or that is idle is gone in time, and no other one is.
  * - The calls of a connection that have no result have no more words than the limit, apart from the last one. */
 #include <capnp/rpc.capnp.h>
 #include <capvet/kj-server.h>
@@ -21,7 +21,8 @@ const uint64_t MARK = UINT64_C(0x5bd1e995) << 32;
 // The most peers, and the most calls that each sends.
 enum { PEERS = 12, CALLS = 5 };
 // The limits of time.
-const kj::Duration DEADLINE = 20 * kj::SECONDS, UNREAD_MOST = 60 * kj::SECONDS, PAUSE = 100 * kj::MILLISECONDS;
+const kj::Duration DEADLINE = 20 * kj::SECONDS, UNREAD_MOST = 60 * kj::SECONDS, IDLE = 10 * kj::MINUTES,
+                   PAUSE = 100 * kj::MILLISECONDS;
 
 // The frames of a client that asks for the service and calls it some times.
 kj::Array<kj::byte> callsOf(uint64_t peer, uint32_t calls) {
@@ -61,7 +62,8 @@ struct Client {
   Model model;
   // What was seen. The connection is null once it is closed.
   Peer *connection = nullptr;
-  bool isServed = false, isUnread = false;
+  bool isServed = false, isUnread = false, isIdle = false;
+  kj::TimePoint begin = kj::origin<kj::TimePoint>();
   uint32_t refusals = 0, running = 0;
 
   // Whether all that libcapnp gets are these calls, so that it has no reason to end the connection.
@@ -169,10 +171,12 @@ class Listener final : public kj::ConnectionReceiver {
 class Run {
  public:
   explicit Run(const fuzz_input &input) : in(input), listener(in, timer) {
-    options.messages.limits = in.limits;
-    options.messages.deadline = DEADLINE;
-    options.messages.unread = UNREAD_MOST;
-    if (choose(&in, 4) == 0) options.messages.paced = false;
+    // (most limits don't say what the bytes are)
+    if (choose(&in, 4) != 0 && in.limits.form == CAPVET_FORM_PREFIX) in.limits.form = CAPVET_FORM_WHOLE;
+    options.limits = in.limits;
+    options.deadline = DEADLINE;
+    options.unread = UNREAD_MOST;
+    if (choose(&in, 4) == 0) options.paced = false;
     if (choose(&in, 2) == 0) options.connections = uint32_t(choose(&in, 5));
     if (choose(&in, 2) == 0) options.connectionsOfAddress = uint32_t(choose(&in, 4));
     // (libcapnp never reads on after a call where this is 0)
@@ -183,11 +187,9 @@ class Run {
   }
 
   void check() {
-    capvet_report report;
-    const bool isBad = capvet_frame(nullptr, 0, &in.limits, &report) == CAPVET_BAD_LIMITS;
     auto failed = kj::runCatchingExceptions([&]() { start(); });
-    RULE((capvet::valueOf(failed) != nullptr) == isBad);
-    if (isBad) return;
+    RULE((valueOf(failed) != nullptr) == isBad(in.limits));
+    if (valueOf(failed) != nullptr) return;
     auto listening = server->listen(listener).eagerlyEvaluate(nullptr);
     RULE(!listening.poll(scope));
     for (auto steps = 8 + choose(&in, 40); steps > 0; steps--) {
@@ -204,9 +206,9 @@ class Run {
 
  private:
   void start() {
-    auto onRefused = [this](const capvet::Refusal &refusal) { checkRefusal(refusal); };
+    auto onEnded = [this](const capvet::Ended &ended) { checkEnded(ended); };
     auto onError = [this](const kj::Exception &) { errors++; };
-    server = kj::heap<capvet::Server>(kj::mv(service), timer, options, kj::mv(onRefused), kj::mv(onError));
+    server = kj::heap<capvet::Server>(kj::mv(service), timer, options, onEnded, onError);
   }
 
   // What happens next.
@@ -221,12 +223,18 @@ class Run {
         break;
       default: connect();
     }
-    scope.poll();
+    settle();
   }
 
   void pass(kj::Duration time) {
     timer.advanceTo(timer.now() + time);
-    scope.poll();
+    settle();
+  }
+
+  // The loop does all that it can.
+  void settle() {
+    kj::Promise<void> never = kj::NEVER_DONE;
+    isDoneNow(never, timer, scope);
   }
 
   // The peers that read get what was written to them.
@@ -257,12 +265,13 @@ class Run {
     client->reads = choose(&in, 3) != 0;
     fill(*client);
     client->isServed = isAllowed(client->address);
+    client->begin = timer.now();
     auto peer = kj::heap<Peer>(in, client->bytes, client->end, client->address);
     Client &it = *client;
     it.connection = peer.get();
     clients.push_back(kj::mv(client));
     listener.give(peer.attach(kj::defer([&it]() { it.connection = nullptr; })));
-    scope.poll();
+    settle();
     RULE(it.isServed || it.connection == nullptr);
     reached_number(1, it.model.accepted.size());
     reached_answer(0, it.model.answer);
@@ -280,18 +289,23 @@ class Run {
     return address.kind >= Address::LOCAL || openOf(address.kind) < options.connectionsOfAddress;
   }
 
-  void checkRefusal(const capvet::Refusal &refusal) {
-    seen.late += refusal.cause == capvet::Cause::LATE;
-    seen.unread += refusal.cause == capvet::Cause::UNREAD;
-    if (refusal.answer != CAPVET_OK) seen.refused[refusal.answer]++;
-    reached_answer(1 + unsigned(refusal.cause), refusal.answer);
-    if (refusal.peer.size() == 0) return;
-    Client &client = clientOf(refusal.peer);
+  void checkEnded(const capvet::Ended &ended) {
+    using capvet::Cause;
+    const auto cause = ended.cause;
+    seen.late += cause == Cause::LATE;
+    seen.idle += cause == Cause::IDLE;
+    seen.unread += cause == Cause::UNREAD;
+    auto *refusal = valueOf(ended.refusal);
+    RULE((refusal == nullptr) == (cause == Cause::IDLE || cause == Cause::UNREAD));
+    if (refusal != nullptr) seen.refused[refusal->answer]++;
+    reached_answer(1 + unsigned(cause), refusal != nullptr ? refusal->answer : CAPVET_OK);
+    if (ended.peer.size() == 0) return;
+    Client &client = clientOf(ended.peer);
     RULE(client.hasAddress() && client.isServed && client.refusals++ == 0);
-    client.isUnread = refusal.cause == capvet::Cause::UNREAD;
-    if (client.isUnread) return;
-    const auto expected = client.model.refusal(client.end);
-    RULE(refusal.cause == expected.cause && kj::str(refusal) == kj::str(expected));
+    client.isUnread = cause == Cause::UNREAD;
+    client.isIdle = cause == Cause::IDLE;
+    if (client.isIdle) RULE(client.end == STALLS && !client.isRefused() && timer.now() - client.begin >= IDLE);
+    if (refusal != nullptr) RULE(cause == client.model.cause(client.end) && kj::str(ended) == client.model.textOf(client.end));
   }
 
   // The peer of an address with a port.
@@ -310,7 +324,7 @@ class Run {
     RULE(counters.accepted == served && counters.turnedAway == clients.size() - served);
     RULE(counters.open == openOf(-1));
     RULE(counters.failedAccepts == listener.failures && errors >= listener.failures);
-    RULE(counters.late == seen.late && counters.unread == seen.unread && counters.refused == seen.refused);
+    RULE(counters.late == seen.late && counters.idle == seen.idle && counters.unread == seen.unread && counters.refused == seen.refused);
     RULE(listener.isAsked() || listener.isPaused());
     if (isForged) return;
     const uint64_t words = wordsOfCall();
@@ -324,7 +338,7 @@ class Run {
       for (int calls = 0; calls < 2 * CALLS + 4; calls++) {
         serviceHere->endAll();
         finishWrites();
-        scope.poll();
+        settle();
       }
       pass(times % 2 == 0 ? DEADLINE : UNREAD_MOST);
       checkState();
@@ -335,6 +349,8 @@ class Run {
   }
 
   void checkEnd(const Client &client) {
+    // (such a peer may have some time left to read the reason)
+    if (client.isIdle) return;
     const bool isIdle = client.end == STALLS && !client.isRefused();
     RULE(isIdle || client.connection == nullptr);
     if (!client.hasAddress() || !client.isKnown()) return;

@@ -1,7 +1,7 @@
 /* Fuzz target: the streams of kj-stream.h over a connection that gives an input's bytes in pieces of any size, and ends, fails
  * or stalls after them. What is passed on are the messages that capvet_frame and capvet_vet accept, one after the other, and
  * libcapnp reads each of them without an exception. The end has the text, the bytes and the cause of the first message that
- * is not accepted, and it is the same for all later reads. `onRefused` is called once at most. */
+ * is not accepted, and it is the same for all later reads. `onEnded` is called once at most. */
 #include <capnp/serialize-async.h>
 #include <capvet/kj.h>
 
@@ -29,20 +29,19 @@ class Run {
         end(End(in.kind / 8)),
         model(modelOf({in.bytes, in.length}, in.limits)),
         peer(in, {in.bytes, in.length}, end, {Address::Kind(in.slack % 5), 4000}) {
+    // (most limits don't say what the bytes are)
+    if (choose(&in, 4) != 0 && in.limits.form == CAPVET_FORM_PREFIX) in.limits.form = CAPVET_FORM_WHOLE;
     options.limits = in.limits;
     options.paced = choose(&in, 2) == 0;
-    if (end == UNREAD || choose(&in, 3) != 0) options.timer = &timer;
     throws = choose(&in, 8) == 0;
   }
 
   // The rules for this input and its way.
   void check() {
-    capvet_report report;
-    const bool isBad = capvet_frame(nullptr, 0, &in.limits, &report) == CAPVET_BAD_LIMITS;
     auto failed = kj::runCatchingExceptions([&]() { start(); });
-    auto *exception = capvet::valueOf(failed);
-    RULE((exception != nullptr) == isBad);
-    if (isBad) return;
+    auto *exception = valueOf(failed);
+    RULE((exception != nullptr) == isBad(in.limits));
+    if (exception != nullptr) return;
     reached_answer(way, model.answer);
     reached_number(way, model.accepted.size());
     if (bytes.get() != nullptr) checkOptions(*bytes);
@@ -52,53 +51,59 @@ class Run {
 
  private:
   void start() {
-    auto onRefused = [this](const capvet::Refusal &refusal) {
+    auto onEnded = [this](const capvet::Ended &ended) {
       refusals++;
-      text = kj::str(refusal);
-      if (refusal.cause != capvet::Cause::UNREAD && refusal.bytes.size() > 0) checkBytes(refusal);
-      checkPath(refusal);
+      text = kj::str(ended);
+      auto *refusal = valueOf(ended.refusal);
+      RULE((refusal == nullptr) == (ended.cause == capvet::Cause::UNREAD));
+      if (refusal != nullptr) checkRefusal(ended.cause, *refusal);
       if (throws) kj::throwFatalException(KJ_EXCEPTION(FAILED, "a callback that throws"));
     };
     auto &files = static_cast<kj::AsyncCapabilityStream &>(peer);
     auto own = [](auto &it) { return kj::Own<std::remove_reference_t<decltype(it)>>(&it, kj::NullDisposer::instance); };
     switch (way) {
       case MESSAGES:
-        messages = kj::heap<capvet::VettingStream>(static_cast<kj::AsyncIoStream &>(peer), options, kj::mv(onRefused));
+        messages = kj::heap<capvet::VettingStream>(static_cast<kj::AsyncIoStream &>(peer), timer, options, onEnded);
         return;
       case MESSAGES_AND_FILES:
-        messages = kj::heap<capvet::VettingStream>(files, options, kj::mv(onRefused));
+        messages = kj::heap<capvet::VettingStream>(files, timer, options, onEnded);
         return;
       case AROUND:
         inner = kj::heap<capnp::AsyncCapabilityMessageStream>(peer);
-        messages = kj::heap<capvet::VettingStream>(*inner, options, kj::mv(onRefused));
+        messages = kj::heap<capvet::VettingStream>(*inner, options, onEnded);
         return;
       case BYTES:
       case BYTES_BY_CAPNP:
-        bytes = kj::heap<capvet::VettingIoStream>(own(static_cast<kj::AsyncIoStream &>(peer)), options, kj::mv(onRefused));
+        bytes = kj::heap<capvet::VettingIoStream>(own(static_cast<kj::AsyncIoStream &>(peer)), timer, options, onEnded);
         messages = kj::heap<capnp::AsyncIoMessageStream>(*bytes);
         return;
       default:
-        auto vetting = kj::heap<capvet::VettingCapabilityStream>(own(files), options, kj::mv(onRefused));
+        auto vetting = kj::heap<capvet::VettingCapabilityStream>(own(files), timer, options, onEnded);
         bytesAndFiles = vetting.get();
         messages = kj::heap<capnp::AsyncCapabilityMessageStream>(*vetting);
         bytes = kj::mv(vetting);
     }
   }
 
-  // The bytes of a refusal are those of the message.
-  void checkBytes(const capvet::Refusal &refusal) {
-    if (way == AROUND) return;
-    const auto rest = model.rest;
-    RULE(refusal.bytes.size() <= rest.size() && memcmp(refusal.bytes.begin(), rest.begin(), refusal.bytes.size()) == 0);
-    if (model.answer >= CAPVET_NOT_CANONICAL) RULE(refusal.bytes.size() == model.report.length);
-    if (model.answer == CAPVET_TRUNCATED) RULE(refusal.bytes.size() == rest.size());
+  // A refusal has the bytes and the place of the message, and the path of the pointer if one is refused.
+  void checkRefusal(capvet::Cause cause, const capvet::Refusal &refusal) {
+    size_t offset = 0;
+    for (const auto &frame : model.accepted) offset += frame.size();
+    if (!isForeign()) RULE(refusal.number == model.accepted.size() && refusal.offset == offset);
+    if (refusal.unvetted.size() > 0) checkBytes(refusal.unvetted);
+    const bool isRefused = model.answer >= CAPVET_NOT_CANONICAL && cause == capvet::Cause::REFUSED;
+    const uint64_t number = isRefused ? model.report.pointers : 0;
+    const auto path = refusal.path();
+    RULE(path == capvet::detail::pathTo(number, model.rest, options.limits) && path == refusal.clone()->path());
   }
 
-  // The path is that of the pointer in the frame, if one is refused.
-  void checkPath(const capvet::Refusal &refusal) {
-    const bool isRefused = model.answer >= CAPVET_NOT_CANONICAL && refusal.cause == capvet::Cause::MESSAGE;
-    const uint64_t number = isRefused ? model.report.pointers : 0;
-    RULE(refusal.path() == capvet::pathTo(number, model.rest, options.limits));
+  // The bytes of a refusal are those of the message.
+  void checkBytes(kj::ArrayPtr<const kj::byte> got) {
+    if (way == AROUND) return;
+    const auto rest = model.rest;
+    RULE(got.size() <= rest.size() && memcmp(got.begin(), rest.begin(), got.size()) == 0);
+    if (model.answer >= CAPVET_NOT_CANONICAL) RULE(got.size() == model.report.length);
+    if (model.answer == CAPVET_TRUNCATED) RULE(got.size() == rest.size());
   }
 
   // Whether libcapnp itself refuses a message that the limits accept.
@@ -115,11 +120,11 @@ class Run {
   // Whether a promise is done, after what it may wait for: writes, and the deadline of a message.
   template <typename Type>
   bool isDone(kj::Promise<Type> &promise) {
-    if (promise.poll(scope)) return true;
+    if (isDoneNow(promise, timer, scope)) return true;
     peer.finishWrites();
-    if (promise.poll(scope)) return true;
+    if (isDoneNow(promise, timer, scope)) return true;
     timer.advanceTo(timer.now() + options.deadline + 1 * kj::SECONDS);
-    return promise.poll(scope);
+    return isDoneNow(promise, timer, scope);
   }
 
   // Begins a write at times. It goes to the connection.
@@ -162,7 +167,7 @@ class Run {
     length = sizeof one;
     auto failed = kj::runCatchingExceptions([&]() { peer.getpeername(reinterpret_cast<sockaddr *>(&one), &length); });
     auto same = kj::runCatchingExceptions([&]() { stream.getpeername(reinterpret_cast<sockaddr *>(&other), &length); });
-    RULE((capvet::valueOf(failed) != nullptr) == (capvet::valueOf(same) != nullptr) && memcmp(&one, &other, sizeof one) == 0);
+    RULE((valueOf(failed) != nullptr) == (valueOf(same) != nullptr) && memcmp(&one, &other, sizeof one) == 0);
     RULE(!stream.whenWriteDisconnected().poll(scope));
     if (bytesAndFiles == nullptr) return;
     auto reading = bytesAndFiles->tryReadWithStreams(nullptr, 0, 0, nullptr, 0);
@@ -173,7 +178,7 @@ class Run {
   template <typename Type>
   bool hasFailed(kj::Promise<Type> &&promise) {
     auto failed = kj::runCatchingExceptions([&]() { promise.wait(scope); });
-    return capvet::valueOf(failed) != nullptr;
+    return valueOf(failed) != nullptr;
   }
 
   // Ends the writing, and then the reading.
@@ -192,7 +197,7 @@ class Run {
   // The limits of libcapnp for a message, where this doesn't set them.
   capnp::ReaderOptions limitsOf(size_t at) const {
     if (way <= AROUND || at >= model.accepted.size()) return NONE;
-    return capvet::readerOptionsOfFrame(model.reports[at], options, NONE);
+    return capvet::readerOptions(model.reports[at], options.readings, NONE);
   }
 
   void readMessages() {
@@ -203,7 +208,7 @@ class Run {
       auto promise = messages->tryReadMessage(kj::arrayPtr(files, 2), limitsOf(at), space);
       RULE(isDone(promise));
       auto read = promise.wait(scope);
-      auto *message = capvet::valueOf(read);
+      auto *message = valueOf(read);
       RULE(message != nullptr);
       compare(*message->reader, model.accepted[at], model.reports[at]);
     }
@@ -215,11 +220,14 @@ class Run {
 
   // A message has the segments of its frame, and libcapnp reads it.
   void compare(capnp::MessageReader &reader, kj::ArrayPtr<const kj::byte> frame, const capvet_report &report) {
+    capvet_extent extents[CAPVET_MAX_SEGMENTS];
+    capvet_report again;
+    size_t count;
+    RULE(capvet_segments(frame.begin(), frame.size(), &in.limits, extents, CAPVET_MAX_SEGMENTS, &count, &again) == CAPVET_OK);
+    RULE(count == report.segments);
     for (uint32_t id = 0; id < report.segments; id++) {
-      size_t offset, length;
-      RULE(capvet_segment_at(frame.begin(), frame.size(), id, &offset, &length) == CAPVET_OK);
       auto got = reader.getSegment(id).asBytes();
-      RULE(got.size() == length && memcmp(got.begin(), frame.begin() + offset, length) == 0);
+      RULE(got.size() == extents[id].length && memcmp(got.begin(), frame.begin() + extents[id].offset, got.size()) == 0);
     }
     RULE(reader.getSegment(report.segments).begin() == nullptr || reader.getSegment(report.segments).size() == 0);
     if ((in.limits.flags & CAPVET_ALLOW_NONSTRICT) != 0) return;
@@ -235,24 +243,18 @@ class Run {
 
   // Whether the callback is called at the end of the bytes.
   bool isReported() const {
-    if (way == AROUND) return !isForeign();
-    return model.answer != CAPVET_OK && (model.answer != CAPVET_TRUNCATED || end != STALLS || isInTime());
+    return way == AROUND ? !isForeign() : model.answer != CAPVET_OK;
   }
 
-  bool isInTime() const { return options.timer != nullptr; }
-
-  // Whether a read of a peer that stalls may wait: between two messages, or without a deadline.
-  bool mayWait() const { return end == STALLS && (model.answer == CAPVET_OK || way == AROUND || isLost()); }
-
-  // Whether such a read, once it is dropped, ends the stream: a part of a message may be lost.
-  bool isLost() const { return end == STALLS && model.answer == CAPVET_TRUNCATED && !isInTime(); }
+  // Whether a read of a peer that stalls may wait: between two messages, or in another stream, which has no deadline.
+  bool mayWait() const { return end == STALLS && (model.answer == CAPVET_OK || way == AROUND); }
 
   // The text of the exception at the end, or null for the end of the stream.
   kj::String expected() const {
     if (model.answer == CAPVET_OK || (model.answer == CAPVET_TRUNCATED && end == FAILS)) {
       return end == FAILS ? kj::str(FAILURE) : kj::String();
     }
-    return kj::str(model.refusal(end));
+    return model.textOf(end);
   }
 
   void readEnd(bool isAgain) {
@@ -265,19 +267,16 @@ class Run {
     bool isThere = false;
     auto thrown = kj::runCatchingExceptions([&]() {
       auto read = promise.wait(scope);
-      isThere = capvet::valueOf(read) != nullptr;
+      isThere = valueOf(read) != nullptr;
     });
     RULE(!isThere);
-    checkEnd(capvet::valueOf(thrown), isAgain);
+    checkEnd(valueOf(thrown), isAgain);
     RULE(isForeign() || (files[0].get() < 0 && files[1].get() < 0));
   }
 
   void checkEnd(const kj::Exception *exception, bool isAgain) {
     const auto text = expected();
-    if (isLost() && way != AROUND) {
-      RULE(isAgain && exception != nullptr);
-      RULE(exception->getDescription().startsWith("capvet: a read was canceled inside a message"));
-    } else if (exception == nullptr) {
+    if (exception == nullptr) {
       RULE(model.answer == CAPVET_OK && (end != FAILS || isAgain));
     } else if (!isForeign()) {
       if (exception->getDescription() != text) fprintf(stderr, "%s, not %s\n", kj::str(*exception).cStr(), text.cStr());
@@ -313,7 +312,7 @@ class Run {
         if (times == 0) writing.wait(scope);
         else messages->writeMessage(nullptr, kj::arrayPtr(segments, 1)).wait(scope);
       });
-      auto *exception = capvet::valueOf(thrown);
+      auto *exception = valueOf(thrown);
       RULE(exception != nullptr && exception->getDescription() == "dropped, unread");
     }
     RULE(refusals == 1 && text == "dropped, unread");
@@ -321,7 +320,7 @@ class Run {
     peer.finishWrites();
     RULE(promise.poll(scope));
     auto thrown = kj::runCatchingExceptions([&]() { promise.wait(scope); });
-    RULE(capvet::valueOf(thrown) != nullptr);
+    RULE(valueOf(thrown) != nullptr);
   }
 
   // Reads the bytes in pieces of any size. Those of a refused message can't be read, apart from the table of a large one.
@@ -345,7 +344,7 @@ class Run {
       auto thrown = kj::runCatchingExceptions([&]() { count = promise.wait(scope); });
       RULE(count <= most);
       all.append(reinterpret_cast<const char *>(space.begin()), count);
-      if (auto *exception = capvet::valueOf(thrown)) {
+      if (auto *exception = valueOf(thrown)) {
         checkEnd(exception, false);
         lost = least;
       }
@@ -381,7 +380,7 @@ class Run {
   const End end;
   const Model model;
   Peer peer;
-  capvet::Options options;
+  capvet::StreamOptions options = capnp::rpc::twoparty::Side::CLIENT;
   bool throws = false;
   uint32_t refusals = 0;
   kj::String text;

@@ -1,5 +1,5 @@
-/* Fuzz target: `vetted` and `tryVetted` of kj-message.h. The answer and the report are those of capvet_vet, at any address,
- * borrowed and owned. Each accepted strict message is read by libcapnp under the limits for that message alone, once and
+/* Fuzz target: `vetted`, `tryVetted` and the like of kj-message.h. The answer and the report are those of capvet_vet, at any
+ * address, borrowed and owned, whole or as a prefix. Each accepted strict message is read by libcapnp under the limits for that message alone, once and
  * four times. Nothing throws, and pointers, capabilities and the canonical form are those of capvet. The path of a refusal leads
  * to its pointer. */
 #include <capvet/kj.h>
@@ -10,6 +10,8 @@
 #include "fuzz.h"
 
 namespace {
+
+using capvet::detail::valueOf;
 
 const capnp::ReaderOptions NONE{0, 0};
 
@@ -22,7 +24,7 @@ bool isEqual(const capvet_report &one, const capvet_report &two) { return memcmp
 
 Expected expectedOf(const fuzz_input &in, kj::ArrayPtr<const kj::byte> bytes) {
   Expected expected = {CAPVET_BAD_LIMITS, {}};
-  if ((in.limits.flags & CAPVET_NO_TABLE) != 0) return expected;
+  if (in.limits.form == CAPVET_FORM_WORDS) return expected;
   expected.answer = capvet_vet(bytes.begin(), bytes.size(), &in.limits, &expected.report);
   return expected;
 }
@@ -54,12 +56,12 @@ void read(const fuzz_input &in, capvet::Vetted &message, kj::ArrayPtr<const kj::
   if (!isStrict(in)) return;
   RULE(walk.pointers == message.report().pointers && walk.caps == message.report().capabilities);
   RULE(again.text() == walk.text());
-  if (!copy.empty()) RULE(copy == formOf(in, bytes));
+  if (!copy.empty()) RULE(copy == formOf(in, bytes) && copy == hexadecimal(message.canonical()));
 }
 
 void readAll(const fuzz_input &in, capvet::Vetted &message, kj::ArrayPtr<const kj::byte> bytes, bool isAll) {
   auto thrown = kj::runCatchingExceptions([&]() { read(in, message, bytes, isAll); });
-  if (auto *exception = capvet::valueOf(thrown)) {
+  if (auto *exception = valueOf(thrown)) {
     if (isStrict(in)) fprintf(stderr, "%s\n", kj::str(*exception).cStr());
     RULE(!isStrict(in));
   }
@@ -73,28 +75,42 @@ void checkPath(const fuzz_input &in, const capvet::Refusal &refusal) {
   if (path.size() == 0) return;
   capvet_node node;
   capvet_report report;
-  const auto answer = capvet_get(refusal.bytes.begin(), refusal.bytes.size(), &in.limits, path.begin(), path.size(), &node,
+  const auto answer = capvet_get(refusal.unvetted.begin(), refusal.unvetted.size(), &in.limits, path.begin(), path.size(), &node,
                                  &report);
   RULE(answer != CAPVET_BAD_PATH && answer != CAPVET_TRUNCATED);
   if (answer == refusal.answer) RULE(report.segment == refusal.report.segment && report.word == refusal.report.word);
 }
 
+// A refusal that is kept says the same, with bytes of its own.
+void checkClone(const capvet::Refusal &refusal) {
+  auto kept = refusal.clone();
+  RULE(kept->unvetted == refusal.unvetted && (kept->unvetted.size() == 0 || kept->unvetted.begin() != refusal.unvetted.begin()));
+  RULE(kj::str(*kept) == kj::str(refusal) && kept->path() == refusal.path());
+}
+
+// Whether the bytes may go on after the message. Then a function says so, and not the limits.
+bool isPrefix(const fuzz_input &in) { return in.limits.form == CAPVET_FORM_PREFIX; }
+
 // The bytes that are borrowed, by both functions.
 void checkBorrowed(const fuzz_input &in, const capvet::Options &options, kj::ArrayPtr<const kj::byte> bytes) {
   const auto expected = expectedOf(in, bytes);
   capvet::Refusal refusal;
-  auto tried = capvet::tryVetted(bytes, refusal, options, NONE);
-  auto *message = capvet::valueOf(tried);
+  auto tried = isPrefix(in) ? capvet::tryVettedPrefix(bytes, refusal, options, NONE)
+                            : capvet::tryVetted(bytes, refusal, options, NONE);
+  auto *message = valueOf(tried);
   reached_answer(0, refusal.answer);
   RULE(refusal.answer == expected.answer && isEqual(refusal.report, expected.report));
   RULE((message != nullptr) == (expected.answer == CAPVET_OK));
-  RULE(refusal.bytes.begin() == bytes.begin() && refusal.bytes.size() == bytes.size());
+  const size_t length = isPrefix(in) && expected.report.length > 0 ? expected.report.length : bytes.size();
+  RULE(refusal.unvetted.begin() == bytes.begin() && refusal.unvetted.size() == length);
+  if (message != nullptr) RULE(message->bytes() == bytes.slice(0, length));
+  checkClone(refusal);
   checkPath(in, refusal);
   auto thrown = kj::runCatchingExceptions([&]() {
-    auto same = capvet::vetted(bytes, options, NONE);
+    auto same = isPrefix(in) ? capvet::vettedPrefix(bytes, options, NONE) : capvet::vetted(bytes, options, NONE);
     RULE(isEqual(same.report(), expected.report));
   });
-  auto *exception = capvet::valueOf(thrown);
+  auto *exception = valueOf(thrown);
   RULE((exception != nullptr) == (expected.answer != CAPVET_OK));
   if (exception != nullptr) RULE(exception->getDescription() == kj::str(refusal));
   if (message != nullptr) readAll(in, *message, bytes.slice(0, expected.report.length), options.readings > 1);
@@ -105,14 +121,15 @@ void checkOwned(const fuzz_input &in, const capvet::Options &options, kj::ArrayP
   const auto expected = expectedOf(in, bytes);
   capvet::Refusal refusal;
   auto tried = capvet::tryVetted(kj::heapArray<kj::byte>(bytes), refusal, options, NONE);
-  RULE(refusal.answer == expected.answer && isEqual(refusal.report, expected.report) && refusal.bytes.size() == 0);
+  RULE(refusal.answer == expected.answer && isEqual(refusal.report, expected.report) && refusal.unvetted == bytes);
+  if (refusal.answer != CAPVET_OK) checkPath(in, refusal);
   auto thrown = kj::runCatchingExceptions([&]() {
     auto same = capvet::vetted(kj::heapArray<kj::byte>(bytes), options, NONE);
     auto moved = kj::mv(same);
     readAll(in, moved, bytes.slice(0, expected.report.length), options.readings > 1);
   });
-  RULE((capvet::valueOf(thrown) != nullptr) == (expected.answer != CAPVET_OK));
-  RULE((capvet::valueOf(tried) != nullptr) == (expected.answer == CAPVET_OK));
+  RULE((valueOf(thrown) != nullptr) == (expected.answer != CAPVET_OK));
+  RULE((valueOf(tried) != nullptr) == (expected.answer == CAPVET_OK));
 }
 
 }  // namespace
@@ -126,8 +143,9 @@ extern "C" int LLVMFuzzerTestOneInput(const uint8_t *data, size_t size) {
   std::copy_n(in.bytes, in.length, bytes.begin());
   capvet::Options options;
   options.limits = in.limits;
+  if (isPrefix(in)) options.limits.form = CAPVET_FORM_WHOLE;
   options.readings = in.kind % 2 != 0 ? 4 : 1;
   checkBorrowed(in, options, bytes);
-  checkOwned(in, options, bytes);
+  if (!isPrefix(in)) checkOwned(in, options, bytes);
   return 0;
 }

@@ -1,7 +1,7 @@
 // The calls of the package for an input. Each has the lines that native.c has to write for it.
 
 const CALLS = ["vet", "exclusive", "segments", "frame", "isCanonical", "canonical", "pointerPath", "get", "range", "pack", "packMessage",
-  "unpack", "plain", "plainExclusive", "packed", "packedExclusive", "explain"];
+  "unpack", "plain", "plainExclusive", "packed", "packedExclusive", "explain", "firstDifference"];
 // A struct without words.
 const EMPTY = Uint8Array.of(0, 0, 0, 0, 1, 0, 0, 0, 252, 255, 255, 255, 0, 0, 0, 0);
 // The most messages of a stream that are looked at.
@@ -30,6 +30,12 @@ function nodeLine(it) {
   return `Ok ${KINDS.indexOf(it.kind)} ${element} ${count} ${dataWords} ${pointers} ${capability} ${offset} ${sumOf(data)}`;
 }
 
+function differenceLine(it) {
+  if (it === null) return "Ok";
+  const { reason, position, pointers, path } = it;
+  return `${reason} ${placeOf(position)} ${pointers} ${path === null ? "NoNode" : `Ok ${path}`}`;
+}
+
 /** A text is that of the bytes, without the zero after it. */
 function checkText(node) {
   const text = node?.text() ?? null;
@@ -42,21 +48,56 @@ function rule(holds, text) {
 
 /** The calls for one input. */
 export class Asks {
-  constructor(capvet, { limits, data, chance }) {
-    Object.assign(this, { capvet, limits, data, chance });
+  constructor(capvet, { limits, data, form, chance }) {
+    Object.assign(this, { capvet, limits, data, form, chance });
     this.all = [];
+  }
+
+  /** The message of the data, in its form. Throws FrameError or Refusal. */
+  vetted(data = this.data, limits = this.limits) {
+    const { capvet, form } = this;
+    return form === "prefix" ? capvet.vetPrefix(data, limits).message : (form === "words" ? capvet.vetWords : capvet.vet)(data, limits);
+  }
+
+  /** The message of the data, or null if it is none or refused. */
+  get message() {
+    try {
+      return this.vetted();
+    } catch {
+      return null;
+    }
+  }
+
+  /** Whether the limits that a call by its table alone doesn't take are valid. */
+  get isValid() {
+    return this.limits.charge <= 2 ** 28 && this.limits.depth <= 256;
   }
 
   /** The line of an error. */
   errorLine(error) {
     const { CapabilityError, FrameError, PathError, Refusal, UnpackError } = this.capvet;
     if (error instanceof PathError) return `${error.reason} ${error.position}`;
-    if (error instanceof FrameError) return `${error.reason} ${error.required} ${error.detail} ${error.length}`;
+    if (error instanceof FrameError) {
+      const { required, segments, words, trailing, segment, length } = error;
+      return `${error.reason} ${required ?? 0} ${segments ?? words ?? trailing ?? segment ?? 0} ${length ?? 0}`;
+    }
     if (error instanceof CapabilityError) return `${error.reason} ${treeOf(error.report)}`;
-    if (error instanceof Refusal) return `${error.reason} ${placeOf(error)} ${error.pointers} ${error.length}`;
+    if (error instanceof Refusal) {
+      this.checkRefusal(error);
+      // (of a refusal of `peek` the text alone has how many pointers were checked)
+      const [, place, pointers] = error.message.match(/ at (.*) pointers (.*)$/);
+      return `${error.reason} ${place} ${pointers} ${error.length}`;
+    }
     if (error instanceof UnpackError) return error.reason;
     if (error instanceof RangeError) return "BadLimits";
     throw error;
+  }
+
+  /** A refusal keeps its fields between workers. */
+  checkRefusal(error) {
+    const again = this.capvet.errorOf(structuredClone(error.toObject()));
+    const isSame = again.path === error.path && again.message === error.message && sumOf(again.unvetted) === sumOf(error.unvetted);
+    rule(isSame && (error.position === null || `${placeOf(error.position)}` === error.message.match(/ at (\S*)/)[1]), "a refusal is kept");
   }
 
   /** Runs a call, and keeps its line. Returns the result, or undefined after an error. */
@@ -85,10 +126,10 @@ export class Asks {
   wrongArguments() {
     const { capvet, data, chance } = this;
     const call = chance.of(() => capvet.vet("text"), () => capvet.vet(data, { dept: 3 }), () => capvet.vet(data, null),
-      () => capvet.vet(data, { depth: "3" }), () => capvet.vet(data, { depth: 257 }), () => capvet.vet(data, { noTable: 1 }),
-      () => capvet.node(data, 7), () => capvet.nodes(data, "/p*", { first: -1 }), () => capvet.readMessages("text"),
-      () => capvet.messages(data, { packed: true }), () => capvet.readMessages([data], { noTable: true }),
-      () => capvet.canonicalInto(data, [], this.limits), () => capvet.canonicalInto(EMPTY, new Uint8Array(7)));
+      () => capvet.vet(data, { depth: "3" }), () => capvet.vet(data, { depth: 257 }), () => capvet.vet(data, { noTable: true }),
+      () => capvet.peek(data, 7), () => capvet.peekRange(data, "/p*", { first: -1 }), () => capvet.readMessages("text"),
+      () => capvet.messages(data, { packed: true }), () => capvet.vet(new Uint8Array(new SharedArrayBuffer(8))), () => new capvet.Message(),
+      () => capvet.vet(EMPTY).canonicalInto([]), () => capvet.vet(EMPTY).canonicalInto(new Uint8Array(7)));
     let thrown = null;
     try {
       call();
@@ -101,50 +142,81 @@ export class Asks {
 
   verdicts() {
     const { capvet, data, limits, chance } = this;
-    const treeLine = (report) => `Ok ${treeOf(report)}`;
+    const treeLine = ({ report }) => `Ok ${treeOf(report)}`;
     // (as a view of any kind)
     const view = new DataView(data.buffer, data.byteOffset, data.length);
     const given = chance.of(data, data, data, data, data, view, data.slice().buffer);
-    this.ask("vet", () => capvet.vet(given, limits), treeLine);
-    this.ask("exclusive", () => capvet.vetExclusive(given, limits), treeLine);
-    const frame = this.ask("frame", () => capvet.frame(data, limits),
+    this.ask("vet", () => this.vetted(given), treeLine);
+    this.ask("exclusive", () => this.vetted(given, { ...limits, exclusive: true }), treeLine);
+    if (this.form === "words" || !this.isValid) return;
+    const frame = this.ask("frame", () => capvet.frame(data, { messageWords: limits.messageWords }),
       ({ length, segments }) => `Ok ${length} ${segments.map((it) => `${it.offset}+${it.length}`).join(" ")}`.trim());
     const parts = (frame?.segments ?? []).map(({ offset, length }) => data.subarray(offset, offset + length));
-    this.ask("segments", () => capvet.vetSegments(parts, limits), treeLine);
+    this.segments(parts, 0);
     const piece = 1 + chance.below(40), pieces = Math.min(Math.ceil(data.length / piece), 513);
     const cut = Array.from({ length: pieces }, (_, at) => data.subarray(piece * at, piece * (at + 1)));
-    this.ask("segments", () => capvet.vetSegments(cut, limits), treeLine, { first: piece });
+    this.segments(cut, piece);
+  }
+
+  /** A message of separate segments. The library counts no table. */
+  segments(parts, first) {
+    const { capvet, limits } = this;
+    this.ask("segments", () => {
+      try {
+        return capvet.vetSegments(parts, limits);
+      } catch (error) {
+        if (error instanceof capvet.Refusal) error.length = 8 * Math.floor(parts.reduce((sum, part) => sum + part.length, 0) / 8);
+        throw error;
+      }
+    }, ({ report }) => `Ok ${treeOf({ ...report, length: 8 * report.words })}`, { first });
   }
 
   copies() {
-    const { capvet, data, limits } = this;
-    this.ask("isCanonical", () => capvet.isCanonical(data, limits), (it) => (it ? "Ok" : "NotCanonical"));
-    const form = this.ask("canonical", () => capvet.canonical(data, limits), (it) => `Ok ${sumOf(it)}`);
+    const { capvet, limits } = this;
+    if (this.form !== "prefix") {
+      this.ask("isCanonical", () => this.vetted().isCanonical(), (it) => (it ? "Ok" : "NotCanonical"));
+      this.ask("firstDifference", () => this.vetted().firstDifference(), differenceLine);
+    }
+    const form = this.ask("canonical", () => this.vetted().canonical(), (it) => `Ok ${sumOf(it)}`);
     if (form === undefined) return;
     const out = new Uint8Array(form.length + this.chance.below(9));
-    rule(capvet.canonicalInto(data, out, limits) === form.length && sumOf(out.subarray(0, form.length)) === sumOf(form),
+    rule(this.vetted().canonicalInto(out) === form.length && sumOf(out.subarray(0, form.length)) === sumOf(form),
       "a form is written to the front of an array");
-    const flags = { noTable: true, allowTrailing: false, allowNonstrict: false, allowAmplified: true };
-    const words = { ...limits, ...flags, messageWords: 2 ** 28 };
-    rule(capvet.isCanonical(form, words) && sumOf(capvet.canonical(form, words)) === sumOf(form), "a form is its own form");
+    const words = { ...limits, allowAmplified: true, messageWords: 2 ** 28 };
+    const again = capvet.vetWords(form, words).canonical();
+    rule(capvet.isCanonicalWords(form, limits) && sumOf(again) === sumOf(form), "a form is its own form");
   }
 
   paths() {
-    const { capvet, data, limits, chance } = this;
-    const pointer = chance.below(12);
-    const pathLine = (it) => (it === null ? "NoNode" : `Ok ${it}`);
-    this.ask("pointerPath", () => capvet.pointerPath(data, pointer, limits), pathLine, { first: pointer });
-    this.ask("explain", () => capvet.explain(data, limits), (it) => (it === null ? "NoNode" : `Ok ${sumOf(encoder.encode(it))}`));
+    const { capvet, data, limits, chance, message } = this;
+    let refusal = null;
+    this.ask("explain", () => {
+      try {
+        this.vetted();
+        return null;
+      } catch (error) {
+        if (!(error instanceof capvet.Refusal)) throw error;
+        refusal = error;
+        return error.explain();
+      }
+    }, (it) => `Ok ${sumOf(encoder.encode(it ?? ""))}`);
+    if (refusal !== null && refusal.pointer !== null) {
+      this.ask("pointerPath", () => refusal.path, (it) => (it === null ? "NoNode" : `Ok ${it}`), { first: refusal.pointer });
+    }
+    // (the library reads nodes of no words without a table, and `peek` allows no bytes after the message)
+    if (this.form === "words" || this.form === "prefix" && message === null) return;
+    const get = (text) => (this.form === "prefix" ? message.get(text) : capvet.peek(data, text, limits));
     for (let path = "", level = 0; level < 5; level++) {
-      const text = path || "/", node = this.ask("get", () => capvet.node(data, text, limits), nodeLine, { text });
+      const text = path || "/", node = this.ask("get", () => get(text), nodeLine, { text });
+      rule(message === null || nodeLine(message.get(text)) === nodeLine(node ?? null), "a message has the nodes that peek finds");
       const letter = node?.kind === "struct" ? "p" : "i";
       this.range(`${path}/${letter}*${chance.of("", "", "/p0", "/i1")}`);
       path += `/${letter}${chance.below(6)}`;
     }
     const text = decoder.decode(data.subarray(0, chance.below(12))) + chance.of("", "/p0", "/i*", "*/p1");
-    this.ask("get", () => capvet.node(data, text, limits), nodeLine, { text });
+    this.ask("get", () => get(text), nodeLine, { text });
     try {
-      [...capvet.nodes(data, text, { ...limits, count: 3 })].forEach(nodeLine);
+      [...capvet.peekRange(data, text, { ...limits, count: 3 })].forEach(nodeLine);
     } catch (error) {
       this.errorLine(error);
     }
@@ -152,14 +224,15 @@ export class Asks {
 
   /** The nodes of a range, up to an error. */
   range(text) {
-    const { capvet, data, limits, chance } = this;
+    const { capvet, data, limits, chance, message } = this;
     const first = chance.below(4), second = chance.below(40) > 0 ? chance.below(6) : 300, lines = [];
+    const part = { first, count: second };
     try {
-      for (const it of capvet.nodes(data, text, { ...limits, first, count: second })) {
+      for (const it of message?.getRange(text, part) ?? capvet.peekRange(data, text, { ...limits, ...part })) {
         lines.push(nodeLine(it));
         checkText(it);
         // (another call, so that the module has other bytes)
-        if (chance.below(8) === 0) capvet.pack(new Uint8Array(8));
+        if (chance.below(8) === 0) capvet.packWords(new Uint8Array(8));
       }
     } catch (error) {
       lines.push(this.errorLine(error));
@@ -172,20 +245,22 @@ export class Asks {
     const part = (bytes) => `Ok ${sumOf(bytes)}`, isWhole = data.length % 8 === 0;
     const packed = this.ask("pack", () => {
       try {
-        return capvet.pack(data);
+        return capvet.packWords(data);
       } catch (error) {
         if (error instanceof RangeError && !isWhole) return null;
         throw error;
       }
     }, (it) => (it === null ? "Truncated" : part(it)));
-    if (packed) rule(sumOf(capvet.unpack(packed, { maxSize: data.length })) === sumOf(data), "what is packed is unpacked");
-    this.ask("packMessage", () => capvet.packMessage(data, limits), part);
+    if (packed) rule(sumOf(capvet.unpackWords(packed, { maxSize: data.length })) === sumOf(data), "what is packed is unpacked");
+    const { messageWords } = limits;
+    if (this.form === "whole" && this.isValid) this.ask("packMessage", () => capvet.packMessage(data, { messageWords }), part);
     for (const most of [chance.of(0, 64, 1 << 14), 1 << 25]) {
-      this.ask("unpack", () => capvet.unpack(data, { maxSize: most }), part, { first: most });
+      this.ask("unpack", () => capvet.unpackWords(data, { maxSize: most }), part, { first: most });
     }
   }
 
   async streams() {
+    if (this.form === "words") return;
     const { capvet, data, limits, chance } = this;
     const exclusive = chance.below(2) === 0, options = { ...limits, exclusive };
     const name = (kind) => (exclusive ? `${kind}Exclusive` : kind);
@@ -229,10 +304,10 @@ export class Asks {
     const lines = [];
     try {
       for await (const it of messages()) {
-        const isRefused = it.refusal !== null;
-        rule((it.data === null) === isRefused && (it.report === null) === isRefused, "a message is accepted or refused");
-        const verdict = it.refusal === null ? `Ok ${treeOf(it.report)}` : this.errorLine(it.refusal);
-        lines.push(`${it.number} ${it.offset} ${verdict} ${sumOf(it.raw)}`);
+        const { Message, Refusal } = this.capvet, isRefused = it instanceof Refusal;
+        rule(it instanceof Message !== isRefused && (it.data === undefined) === isRefused, "a message is accepted or refused");
+        const verdict = isRefused ? this.errorLine(it) : `Ok ${treeOf(it.report)}`;
+        lines.push(`${it.number} ${it.offset} ${verdict} ${sumOf(isRefused ? it.unvetted : it.data)}`);
         if (lines.length === MESSAGES) break;
       }
       if (lines.length < MESSAGES) lines.push("end");

@@ -4,6 +4,9 @@ export const ARGUMENTS = 16;
 // The most bytes of an input, and the most charge of amplified messages, since a walk would take seconds.
 const MOST = 20000, AMPLIFIED = 2 ** 16;
 
+// The form of the bytes, by its flag.
+const FORMS = { 0: "whole", 1: "prefix", 8: "words" };
+
 /** Numbers that follow from a seed. */
 export class Chance {
   constructor(seed) {
@@ -24,20 +27,19 @@ export class Chance {
   }
 }
 
-/** The arguments and the bytes of an input, or null if it has no arguments. */
+/** The arguments and the bytes of an input. Null if it has no arguments, or flags that exclude each other. */
 export function inputOf(whole) {
-  if (whole.length < ARGUMENTS) return null;
+  if (whole.length < ARGUMENTS || (whole[0] & 9) === 9) return null;
   const view = new DataView(whole.buffer, whole.byteOffset), number = (value, otherwise) => (value > 0 ? value - 1 : otherwise);
   const flags = whole[0], limits = {
     messageWords: number(view.getUint32(4, true), 8388608), charge: number(view.getUint32(8, true), 8388608),
-    depth: number(view.getUint16(2, true), 64), allowTrailing: (flags & 1) > 0, allowNonstrict: (flags & 2) > 0,
-    allowAmplified: (flags & 4) > 0, noTable: (flags & 8) > 0,
+    depth: number(view.getUint16(2, true), 64), allowNonstrict: (flags & 2) > 0, allowAmplified: (flags & 4) > 0,
   };
   if (limits.allowAmplified && limits.charge <= 2 ** 28) limits.charge = Math.min(limits.charge, AMPLIFIED);
   // (at any address)
   const slack = whole[1] & 7, data = new Uint8Array(whole.length - ARGUMENTS + slack).subarray(slack);
   data.set(whole.subarray(ARGUMENTS));
-  return { limits, data, chance: new Chance(view.getUint32(12, true)) };
+  return { limits, data, form: FORMS[flags & 9], chance: new Chance(view.getUint32(12, true)) };
 }
 
 /** A pointer of small numbers, as two halves. */

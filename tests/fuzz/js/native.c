@@ -11,7 +11,7 @@
 #include <string.h>
 
 enum { VET, EXCLUSIVE, SEGMENTS, FRAME, IS_CANONICAL, CANONICAL, POINTER_PATH, GET, RANGE, PACK, PACK_MESSAGE, UNPACK, PLAIN,
-       PLAIN_EXCLUSIVE, PACKED, PACKED_EXCLUSIVE, EXPLAIN };
+       PLAIN_EXCLUSIVE, PACKED, PACKED_EXCLUSIVE, EXPLAIN, FIRST_DIFFERENCE };
 /* The most messages of a stream that are looked at. (a short packed stream may have many) */
 enum { MESSAGES = 300, STEPS_MOST = 256 };
 
@@ -83,18 +83,16 @@ static capvet_answer vet(const uint8_t *bytes, size_t count, bool is_exclusive, 
 }
 
 static void print_frame(void) {
+  capvet_extent extents[CAPVET_MAX_SEGMENTS];
   capvet_report report;
-  const capvet_answer answer = capvet_frame(data, length, &limits, &report);
+  size_t count;
+  const capvet_answer answer = capvet_segments(data, length, &limits, extents, CAPVET_MAX_SEGMENTS, &count, &report);
   if (answer != CAPVET_OK) {
     print_answer(answer, &report);
     return;
   }
   fprintf(lines, "Ok %" PRIu64, report.length);
-  for (uint32_t at = 0; at < report.segments; at++) {
-    size_t offset, size;
-    if (capvet_segment_at(data, length, at, &offset, &size) != CAPVET_OK) abort();
-    fprintf(lines, " %zu+%zu", offset, size);
-  }
+  for (size_t at = 0; at < count; at++) fprintf(lines, " %" PRIu64 "+%" PRIu64, extents[at].offset, extents[at].length);
 }
 
 /* The segments are those of the frame, or pieces of the data of a size. */
@@ -102,12 +100,9 @@ static void print_segments(size_t piece) {
   capvet_segment segments[CAPVET_MAX_SEGMENTS + 1];
   capvet_report report;
   size_t count = 0;
-  if (piece == 0 && capvet_frame(data, length, &limits, &report) == CAPVET_OK) {
-    for (; count < report.segments; count++) {
-      size_t offset;
-      if (capvet_segment_at(data, length, (uint32_t)count, &offset, &segments[count].length) != CAPVET_OK) abort();
-      segments[count].bytes = data + offset;
-    }
+  capvet_extent extents[CAPVET_MAX_SEGMENTS];
+  if (piece == 0 && capvet_segments(data, length, &limits, extents, CAPVET_MAX_SEGMENTS, &count, &report) == CAPVET_OK) {
+    for (size_t at = 0; at < count; at++) segments[at] = (capvet_segment){data + extents[at].offset, extents[at].length};
   } else {
     for (size_t at = 0; piece > 0 && at < length && count <= CAPVET_MAX_SEGMENTS; at += piece) {
       segments[count].bytes = data + at;
@@ -147,12 +142,27 @@ static void print_pointer_path(uint64_t number) {
   }
 }
 
+static void print_difference(void) {
+  capvet_report report;
+  const capvet_answer answer = capvet_first_difference(data, length, &limits, &report);
+  if (answer == CAPVET_OK) {
+    fprintf(lines, "Ok");
+  } else if (answer != CAPVET_NOT_CANONICAL) {
+    print_answer(answer, &report);
+  } else {
+    fprintf(lines, "%s %" PRIu32 ":%" PRIu32 " %" PRIu64 " ", capvet_difference_name(report.detail), report.segment, report.word,
+            report.pointers);
+    if (report.detail == CAPVET_DIFFERENCE_SEGMENTS || report.detail == CAPVET_DIFFERENCE_TRAILING) fprintf(lines, "NoNode");
+    else print_pointer_path(report.pointers);
+  }
+}
+
 static void print_explanation(void) {
   capvet_report report;
   size_t required;
   char text[CAPVET_EXPLANATION_BOUND];
   const capvet_answer answer = capvet_explain(data, length, &limits, text, sizeof text, &required, &report);
-  if (answer != CAPVET_OK) {
+  if (answer != CAPVET_OK && answer < CAPVET_NOT_CANONICAL) {
     print_answer(answer, &report);
     return;
   }
@@ -192,7 +202,7 @@ static void print_pack(bool is_message) {
   size_t required;
   const size_t size = CAPVET_PACK_BOUND(length);
   const capvet_answer answer = is_message ? capvet_pack_message(data, length, &limits, space(size), size, &required, &report)
-                                          : capvet_pack(data, length, space(size), size, &required);
+                                          : capvet_pack_words(data, length, space(size), size, &required);
   if (answer == CAPVET_OK) {
     fprintf(lines, "Ok");
     print_bytes(out, required);
@@ -205,9 +215,9 @@ static void print_pack(bool is_message) {
 
 static void print_unpack(size_t most) {
   size_t required;
-  capvet_answer answer = capvet_unpack(data, length, NULL, 0, &required);
+  capvet_answer answer = capvet_unpack_words(data, length, NULL, 0, &required);
   if (answer == CAPVET_BUFFER_TOO_SMALL && required > most) answer = CAPVET_TOO_LARGE;
-  if (answer == CAPVET_BUFFER_TOO_SMALL) answer = capvet_unpack(data, length, space(required), required, &required);
+  if (answer == CAPVET_BUFFER_TOO_SMALL) answer = capvet_unpack_words(data, length, space(required), required, &required);
   fprintf(lines, "%s", capvet_answer_name(answer));
   if (answer == CAPVET_OK) print_bytes(out, required);
 }
@@ -273,7 +283,7 @@ static void answer_ask(const ask *it) {
     case SEGMENTS: print_segments(it->of.first); break;
     case FRAME: print_frame(); break;
     case IS_CANONICAL: {
-      const capvet_answer answer = capvet_is_canonical(data, length, &limits, &report);
+      const capvet_answer answer = capvet_check_canonical(data, length, &limits, &report);
       if (answer == CAPVET_OK || answer == CAPVET_NOT_CANONICAL) fprintf(lines, "%s", capvet_answer_name(answer));
       else print_answer(answer, &report);
       break;
@@ -290,6 +300,7 @@ static void answer_ask(const ask *it) {
     case PACKED:
     case PACKED_EXCLUSIVE: print_packed(it->of.call == PACKED_EXCLUSIVE); break;
     case EXPLAIN: print_explanation(); break;
+    case FIRST_DIFFERENCE: print_difference(); break;
     default: abort();
   }
 }

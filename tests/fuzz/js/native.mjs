@@ -1,11 +1,11 @@
 // The native library, as a process that answers asks: see native.c.
 import { spawn } from "node:child_process";
 
-const LIMITS = 40, encoder = new TextEncoder();
-const FLAGS = ["allowTrailing", "allowNonstrict", "allowAmplified", "noTable"];
+const LIMITS = 80, encoder = new TextEncoder();
+const FLAGS = ["allowNonstrict", "allowAmplified"], FORMS = ["whole", "prefix", "words"];
 
-/** A record: the limits, the data, and the asks. */
-function recordOf({ limits, data }, asks) {
+/** A record: the limits with the form of the data, the data, and the asks. */
+function recordOf({ limits, data, form }, asks) {
   const texts = asks.map((it) => encoder.encode(it.text));
   const size = LIMITS + 8 + data.length + texts.reduce((sum, it) => sum + 16 + it.length, 0);
   const record = new Uint8Array(size), view = new DataView(record.buffer);
@@ -13,6 +13,7 @@ function recordOf({ limits, data }, asks) {
   view.setBigUint64(8, BigInt(limits.charge), true);
   view.setUint32(16, limits.depth, true);
   view.setUint32(20, FLAGS.reduce((sum, name, at) => sum | (limits[name] ? 1 << at : 0), 0), true);
+  view.setUint32(24, FORMS.indexOf(form), true);
   view.setUint32(LIMITS, data.length, true);
   record.set(data, LIMITS + 4);
   let at = LIMITS + 4 + data.length;

@@ -3,8 +3,8 @@
 use crate::input::Input;
 use capnp::message::ReaderSegments;
 use capvet::{
-    CanonicalError, ExclusiveError, FrameError, GetError, Limits, PackMessageError, Refusal, Step,
-    UnpackMessageError, Unpacking, VetError,
+    ExclusiveError, FrameError, Limits, PackError, Path, Reason, Refusal, Step, UnpackMessageError,
+    Unpacking, VetError,
 };
 use std::fmt::{Debug, Display};
 use std::io;
@@ -26,12 +26,10 @@ fn check_frame(error: FrameError) {
     assert_eq!(error.required().is_some(), more_helps);
     let texts = [
         VetError::from(error).to_string(),
-        CanonicalError::from(error).to_string(),
-        ExclusiveError::from(error).to_string(),
-        GetError::from(error).to_string(),
-        PackMessageError::from(error).to_string(),
+        ExclusiveError::from(VetError::from(error)).to_string(),
+        PackError::from(error).to_string(),
         UnpackMessageError::from(error).to_string(),
-        capvet_capnp::Error::from(error).to_string(),
+        capvet_capnp::Error::from(VetError::from(error)).to_string(),
     ];
     assert!(texts.iter().all(|text| *text == error.to_string()));
 }
@@ -41,12 +39,13 @@ fn check_path(it: &Input, refusal: Refusal) {
     check::<(), _>(Err(refusal));
     assert_eq!(VetError::from(refusal).to_string(), refusal.to_string());
     assert_eq!(refusal.reason.to_string(), VetError::from(refusal).name());
+    assert_eq!(refusal.reason.name().parse::<Reason>(), Ok(refusal.reason));
     if let Some(path) = refusal.path(it.bytes, it.limits) {
-        let found = capvet::node(it.bytes, &path.to_string(), it.limits);
-        assert!(!matches!(found, Err(GetError::BadPath { .. })));
-        assert_eq!(Some(path.clone()), refusal.path(it.bytes, it.limits));
-        assert!(path.to_string().matches('/').count() == path.steps().len().max(1));
-        assert!(format!("{:?}", path).starts_with("Path("));
+        let _ = capvet::peek(it.bytes, &path, it.limits);
+        assert_eq!(path.to_string().parse::<Path>().as_ref(), Ok(&path));
+        let mut steps = [Step::Pointer(7); 256];
+        let into = refusal.path_into(it.bytes, it.limits, &mut steps);
+        assert_eq!(into, Some(path.as_ref()));
     }
 }
 
@@ -56,15 +55,18 @@ fn check_cut_segments(it: &mut Input) {
     let cut = [one, other]
         .iter()
         .position(|segment| segment.len() % 8 != 0);
-    let verdict = capvet::vet_segments(&[one, other], it.limits.no_table(false));
-    match verdict {
-        Err(VetError::Frame(FrameError::BadSegment { index, .. })) => assert_eq!(cut, Some(index)),
-        _ => assert_eq!(cut, None),
+    match capvet::vet_segments(&[one, other], it.limits) {
+        Err(error) => {
+            match error.error {
+                VetError::Frame(FrameError::BadSegment { index, .. }) => {
+                    assert_eq!(cut, Some(index))
+                }
+                _ => assert_eq!(cut, None),
+            }
+            check::<(), _>(Err(error.error));
+        }
+        Ok(message) => assert!(cut.is_none() && message.as_message().segments().eq([one, other])),
     }
-    if let Err(error) = verdict {
-        assert_ne!(error.name(), "Unknown");
-    }
-    check(verdict);
 }
 
 /// The errors of all calls.
@@ -80,37 +82,38 @@ pub fn errors(it: &mut Input) {
     }
     let mut small = vec![0; it.choose(20)];
     let mut marks = vec![0; it.choose(2)];
-    let steps = [Step::Pointer(it.choose(3) as u32)];
-    let steps = &steps[..it.choose(3).min(1)];
+    let steps = [Step::Pointer(it.choose(3) as u16)];
     let text = String::from_utf8_lossy(&bytes[..it.choose(bytes.len() + 1) % 20]);
     check(capvet::vet_exclusive(bytes, limits, &mut marks));
-    check(capvet::canonical_into(bytes, limits, &mut small));
-    check(capvet::node(bytes, &text, limits));
-    for varying in 0..2 {
-        let mut nodes = capvet::nodes(bytes, steps, varying, limits);
-        let first = nodes.clone().next();
-        assert_eq!(nodes.next(), first);
-        if let Some(found) = first {
-            check(found);
-        }
+    if let Ok(message) = verdict {
+        check(message.canonical_into(&mut small));
     }
-    check(capvet::pack(bytes));
-    check(capvet::pack_into(bytes, &mut small));
-    check(capvet::unpack(bytes, it.choose(99)));
-    check(capvet::unpack_into(bytes, &mut small));
-    check(capvet::pack_message_into(bytes, limits, &mut small));
+    match text.parse::<Path>() {
+        Ok(path) => assert_eq!(path.to_string(), text),
+        Err(error) => check::<(), _>(Err(error)),
+    }
+    check(capvet::peek(bytes, steps, limits));
+    let mut nodes = capvet::peek_range(bytes, steps, 0, limits);
+    let first = nodes.clone().next();
+    assert_eq!(nodes.next(), first);
+    if let Some(found) = first {
+        check(found);
+    }
+    check(capvet::pack_words(bytes));
+    check(capvet::pack_words_into(bytes, &mut small));
+    check(capvet::unpack_words(bytes, it.choose(99)));
+    check(capvet::unpack_words_into(bytes, &mut small));
+    check(capvet::pack_message_into(bytes, &mut small));
     check_cut_segments(it);
-    assert!(capvet::cpu_supported() && capvet::version().0 == 1);
 }
 
 /// A message that is packed by itself is unpacked to its frame, in pieces of any size.
 pub fn packed_message(it: &mut Input) {
-    let packed = match capvet::pack_message(it.bytes, it.limits) {
+    let packed = match capvet::pack_message(it.bytes) {
         Ok(packed) => packed,
         Err(error) => return check::<(), _>(Err(error)),
     };
-    let length = capvet::frame_length(it.bytes, it.limits).expect("what is packed is a frame");
-    let limits = it.limits.allow_trailing(false);
+    let (length, limits) = (it.bytes.len(), Limits::DEFAULT);
     let (mut rest, mut held) = (&packed[..0], 0);
     let (mut out, mut state) = (vec![0; it.choose(64)], Unpacking::default());
     loop {
@@ -119,7 +122,7 @@ pub fn packed_message(it: &mut Input) {
             Err(error @ UnpackMessageError::BufferTooSmall { required, .. }) => {
                 check::<(), _>(Err(error));
                 assert_eq!(error.required(), None);
-                out.resize(required, 0);
+                out.resize(required as usize, 0);
             }
             Err(error) => {
                 check::<(), _>(Err(error));
@@ -133,65 +136,40 @@ pub fn packed_message(it: &mut Input) {
     // (the padding of a table is packed as zeros)
     assert_eq!(out[8..length].len(), it.bytes[8..length].len());
     assert_eq!(
-        capvet::unpack(&packed, length).as_deref(),
+        capvet::unpack_words(&packed, length).as_deref(),
         Ok(&out[..length])
     );
-    assert!(length <= limits.frame_bound());
+    assert!(length as u64 <= limits.frame_bound());
 }
 
-/// The calls for the crate `capnp` say the same, and their options are never below those that are needed.
-#[allow(deprecated)]
+/// The options for the crate `capnp` are never below those that are needed.
 pub fn for_capnp(it: &Input) {
-    let by_reader = capvet_capnp::reader(it.bytes, it.limits);
-    let by_segments = capvet_capnp::segments(it.bytes, it.limits);
     match capvet_capnp::vetted(it.bytes, it.limits) {
         Ok(vetted) => {
-            assert!(by_reader.is_ok() && by_segments.is_ok());
-            assert_eq!(vetted.len(), vetted.report().segments as usize);
-            let (least, most) = (vetted.least_options(2), vetted.options(2));
-            assert!(most.traversal_limit_in_words >= least.traversal_limit_in_words);
-            assert!(most.nesting_limit >= least.nesting_limit);
-            let same = capvet_capnp::options(vetted.report(), 2);
-            assert!(same.traversal_limit_in_words >= least.traversal_limit_in_words);
-            let any = capvet_capnp::options_for(it.limits);
-            assert!(
-                any.traversal_limit_in_words >= vetted.least_options(1).traversal_limit_in_words
-            );
-            assert!(any.nesting_limit >= least.nesting_limit);
+            let report = vetted.report();
+            assert_eq!(vetted.len(), report.segments as usize);
+            for options in [
+                capvet_capnp::options(report, 1),
+                capvet_capnp::options_for(it.limits),
+            ] {
+                assert!(options.traversal_limit_in_words >= Some(report.reader_words(1) as usize));
+                assert!(options.nesting_limit >= report.reader_nesting() as i32);
+            }
             assert!(format!("{:?}", vetted).starts_with("Vetted"));
         }
         Err(error) => {
-            assert_eq!(by_reader.err(), Some(*error.reason()));
-            assert_eq!(by_segments.err(), Some(VetError::from(error)));
             let text = error.to_string();
+            assert_eq!(error.error().to_string(), text);
             assert_eq!(io::Error::from(error).to_string(), text);
-            assert_eq!(capnp::Error::from(error).description, text);
+            let expected = format!("Failed: {text}");
+            assert_eq!(capnp::Error::from(error).to_string(), expected);
         }
     }
 }
 
-/// The limits that are set are those that are asked for.
-pub fn limits(limits: Limits) {
-    let flags = [
-        limits.allows_trailing(),
-        limits.allows_nonstrict(),
-        limits.allows_amplified(),
-        limits.has_no_table(),
-    ];
-    let same = Limits::default()
-        .message_words(limits.message_words_limit())
-        .charge(limits.charge_limit())
-        .depth(limits.depth_limit())
-        .allow_trailing(flags[0])
-        .allow_nonstrict(flags[1])
-        .allow_amplified(flags[2])
-        .no_table(flags[3]);
-    assert_eq!(same, limits);
-}
-
 /// A reader that is left gives back what it has not read, and the part of a message that it holds.
 pub fn readers(it: &Input) {
-    let (bytes, limits) = (it.bytes, it.limits.allow_trailing(false));
+    let (bytes, limits) = (it.bytes, it.limits);
     let mut plain = capvet::read_messages(bytes, limits);
     let mut packed = capvet::read_packed_messages(bytes, limits);
     let mut all = capvet::messages(bytes, limits);
@@ -212,7 +190,7 @@ pub fn readers(it: &Input) {
         }
     }
     assert!(format!("{:?}", plain).starts_with("ReadMessages"));
-    assert!(format!("{:?}", packed).starts_with("ReadPackedMessages"));
+    assert!(format!("{:?}", packed).starts_with("ReadMessages"));
     assert!(format!("{:?}", all).starts_with("Messages"));
     assert!(bytes.ends_with(all.rest()));
     let held = plain.partial().len();

@@ -1,14 +1,23 @@
 //! The arguments of an input: see `../../fuzz.h`.
 
-use capvet::Limits;
+use capvet::{Limits, MessageBuf, NotAccepted, VetError};
 use std::io::{self, Read};
 
 const ARGUMENTS: usize = 16;
 const MOST_AMPLIFIED: u64 = 1 << 16;
 
+/// What the bytes are vetted as.
+#[derive(Clone, Copy, PartialEq, Eq)]
+pub enum Form {
+    Whole,
+    Prefix,
+    Words,
+}
+
 /// The arguments of an input, and its bytes.
 pub struct Input<'b> {
     pub limits: Limits,
+    pub form: Form,
     pub slack: usize,
     pub bytes: &'b [u8],
     state: u64,
@@ -23,22 +32,38 @@ impl<'b> Input<'b> {
             0 => otherwise,
             more => more - 1,
         };
-        let charge = limit(8..12, Limits::DEFAULT.charge_limit());
+        let charge = limit(8..12, Limits::DEFAULT.charge());
         let charge = charge.min(if flag(2) { MOST_AMPLIFIED } else { u64::MAX });
-        let limits = Limits::DEFAULT
-            .depth(limit(2..4, 64) as u32)
-            .message_words(limit(4..8, Limits::DEFAULT.message_words_limit()))
-            .charge(charge)
-            .allow_trailing(flag(0))
-            .allow_nonstrict(flag(1))
-            .allow_amplified(flag(2))
-            .no_table(flag(3));
+        let limits = Limits::new(
+            limit(4..8, Limits::DEFAULT.message_words()).min(Limits::MAX_MESSAGE_WORDS),
+            charge.min(Limits::MAX_CHARGE),
+            limit(2..4, 64).min(Limits::MAX_DEPTH.into()) as u32,
+        );
+        let limits = limits
+            .expect("no number is above its maximum")
+            .with_allow_nonstrict(flag(1))
+            .with_allow_amplified(flag(2));
+        let form = match (flag(0), flag(3)) {
+            (_, true) => Form::Words,
+            (true, false) => Form::Prefix,
+            (false, false) => Form::Whole,
+        };
         Some(Self {
             limits,
+            form,
             slack: usize::from(data[1] & 7),
             bytes,
             state: number(&data[12..16]),
         })
+    }
+
+    /// The verdict.
+    pub fn vet(&self, limits: Limits) -> Result<MessageBuf, VetError> {
+        match self.form {
+            Form::Whole => Ok(capvet::vet(self.bytes, limits)?.into()),
+            Form::Prefix => Ok(capvet::vet_prefix(self.bytes, limits)?.0.into()),
+            Form::Words => capvet::vet_words(self.bytes, limits).map_err(NotAccepted::into),
+        }
     }
 
     /// A number below `below`, or 0 if that is 0.

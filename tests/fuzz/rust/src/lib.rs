@@ -1,10 +1,11 @@
 //! Fuzz target: the crate `capvet`, and `capvet_capnp` with the crate `capnp` reading what it accepts.
 //!
 //! - What is accepted is accepted by just the limits that it needs, and in separate segments.
-//! - Streams give the same messages from a slice, in pieces of any size, and packed.
-//! - `nodes` gives what `node` gives, and neither leaves the message.
+//! - Streams give the same messages from a slice, in pieces of any size, pushed, and packed. Accepted ones alone pass a reader.
+//! - A range of nodes has what is at each path, vetted or not, and neither leaves the message.
 //! - The canonical form of a canonical form is the same.
-//! - Each refusal is explained by the lines that the library writes, and nothing else is.
+//! - The pointer of an overlap has a path, and the one before it, if there is one, another path.
+//! - Each refusal is explained by the lines that the proved library writes, and nothing else is.
 //! - The crate `capnp` reads each strict message under the limits for it alone, at any address.
 
 #[path = "../../../readers/rust/src/walk.rs"]
@@ -14,123 +15,137 @@ mod errors;
 mod explaining;
 mod input;
 
-use capnp::message::Reader;
+use capnp::message::{Reader, ReaderOptions};
 use capvet::{
-    CanonicalError, ExclusiveError, FrameError, Limits, ReadError, Report, Step, VetError,
+    CanonicalError, ExclusiveError, Feed, FrameError, Limits, Message, MessageBuf, ReadError,
+    Reason, Report, Step, VetError, VettedReader,
 };
-use input::{Input, Pieces};
+use capvet_capnp::Vetted;
+use input::{Form, Input, Pieces};
+use std::io::{ErrorKind, Read};
 
 const MOST: usize = 1 << 16;
 // The most messages of a stream that are looked at. (a short packed stream may have many)
 const MESSAGES: usize = 300;
 
-/// A message in separate segments has the same verdict.
-fn segments(it: &Input, verdict: &Result<Report, VetError>) {
-    if it.limits.has_no_table() {
-        return;
-    }
+/// A message in separate segments is the same.
+fn segments(it: &Input) {
     let found = match capvet::segments(it.bytes) {
         Ok(segments) => segments,
         Err(error) => return assert_ne!(error.to_string(), ""),
     };
     assert_eq!(found.len(), found.clone().count());
     let all: Vec<_> = found.collect();
-    let separate = capvet::vet_segments(&all, it.limits);
-    match (verdict, separate) {
-        // (the length is that of the segments alone)
-        (Ok(one), Ok(other)) => assert_eq!(one.to_string(), other.to_string()),
-        (Err(VetError::Frame(_)), _) => {}
-        (one, other) => assert_eq!(
-            one.as_ref().map_err(ToString::to_string).err(),
-            other.map_err(|error| error.to_string()).err()
-        ),
+    match (
+        capvet::vet_prefix(it.bytes, it.limits),
+        capvet::vet_segments(&all, it.limits),
+    ) {
+        (Ok((one, rest)), Ok(other)) => {
+            assert_eq!(one.report(), other.report());
+            assert!(one.segments().eq(all) && it.bytes.ends_with(rest));
+        }
+        (one, other) => {
+            assert_eq!(one.err(), other.as_ref().err().map(|it| it.error));
+            if let Err(error) = other {
+                explaining::explain_kept(&error, it.limits);
+            }
+        }
     }
 }
 
 /// A verdict, and those of the limits that the message needs and of less.
-fn vet(it: &Input) -> Result<Report, VetError> {
-    let verdict = capvet::vet(it.bytes, it.limits);
+fn vet(it: &Input) -> Result<MessageBuf, VetError> {
+    let verdict = it.vet(it.limits);
     match &verdict {
-        Ok(report) => {
-            let tight = it.limits.charge(report.charge).depth(report.depth);
-            assert_eq!(capvet::vet(it.bytes, tight).as_ref(), Ok(report));
+        Ok(message) => {
+            let report = message.report();
+            let tight = it
+                .limits
+                .with_charge(report.charge)
+                .with_depth(report.depth);
+            assert_eq!(it.vet(tight).as_ref(), Ok(message));
             if report.charge > 0 {
-                assert!(capvet::vet(it.bytes, tight.charge(report.charge - 1)).is_err());
+                assert!(it.vet(tight.with_charge(report.charge - 1)).is_err());
             }
             assert_eq!(report.first_capability.is_some(), report.capabilities > 0);
-            assert!(report.length <= it.bytes.len());
+            assert_eq!(report.length, message.bytes().len());
+            let words = message.as_message().segments().map(|it| it.len() / 8);
+            assert_eq!(report.words, words.sum::<usize>() as u64);
         }
         Err(error) => {
-            assert!(error.length() <= it.bytes.len());
-            assert_ne!(error.name(), "Unknown");
+            assert!(it.form == Form::Words || error.length() <= it.bytes.len());
             assert_ne!(error.to_string(), "");
         }
     }
     verdict
 }
 
-fn exclusive(it: &mut Input, verdict: &Result<Report, VetError>) {
-    let by_alloc = capvet::vet_exclusive_alloc(it.bytes, it.limits);
+fn exclusive(it: &mut Input) {
+    let (bytes, limits) = (it.bytes, it.limits);
+    let verdict = capvet::vet(bytes, limits);
+    let exclusive = limits.with_exclusive(true);
+    let by_alloc = capvet::vet(bytes, exclusive);
     let mut marks = vec![u64::MAX; it.choose(it.bytes.len() / 512 + 2)];
-    let by_marks = capvet::vet_exclusive(it.bytes, it.limits, &mut marks);
-    match (&by_marks, verdict) {
-        (
-            Err(ExclusiveError::BufferTooSmall {
-                required, report, ..
-            }),
-            Ok(expected),
-        ) => {
-            assert!(*required > marks.len() && report == expected);
+    match capvet::vet_exclusive(bytes, limits, &mut marks) {
+        Err(ExclusiveError::BufferTooSmall { required, .. }) => {
+            assert!(required > marks.len() && verdict.is_ok());
         }
-        (Ok(report), Ok(expected)) => assert!(report == expected && by_alloc.as_ref() == Ok(report)),
-        (error, _) => assert_eq!(error, &by_alloc),
+        by_marks => assert_eq!(by_marks, by_alloc.map_err(ExclusiveError::from)),
     }
-    assert!(verdict.is_ok() || by_alloc.is_err());
+    match (by_alloc, verdict) {
+        (Ok(one), other) => assert_eq!(Ok(one), other),
+        (Err(VetError::Refused(refusal)), Ok(_)) => {
+            // The pointer of an overlap has a path, and the one before it, if there is one, another path.
+            assert_eq!(refusal.reason, Reason::Overlap);
+            let path = refusal.path(bytes, limits);
+            assert!(path.is_some() && path != refusal.earlier_path(bytes, limits));
+        }
+        (one, other) => assert_eq!(one, other),
+    }
 }
 
-fn canonical(it: &mut Input, verdict: &Result<Report, VetError>) {
-    let (form, report) = match capvet::canonical(it.bytes, it.limits) {
-        Ok(found) => found,
-        Err(CanonicalError::HasCapability { report, .. }) => {
-            assert_eq!(Ok(report), *verdict);
-            return assert_ne!(capvet::is_canonical(it.bytes, it.limits), Ok(true));
+fn canonical(it: &mut Input, message: Message<'_>) {
+    let form = match message.canonical() {
+        Ok(form) => form,
+        Err(none) => {
+            assert_eq!(Some(none.position), message.report().first_capability);
+            assert!(message.first_difference().is_some());
+            return assert!(!message.is_canonical());
         }
-        Err(error) => return assert!(verdict.is_err(), "{}", error),
     };
-    assert_eq!(Ok(report), *verdict);
-    let words = it.limits.message_words_limit().max(form.len() as u64 / 8);
-    let limits = it.limits.allow_trailing(false).allow_nonstrict(false);
-    let limits = limits
-        .allow_amplified(true)
-        .no_table(true)
-        .message_words(words);
-    assert_eq!(capvet::is_canonical(&form, limits), Ok(true));
-    assert_eq!(
-        capvet::canonical(&form, limits)
-            .map(|found| found.0)
-            .as_ref(),
-        Ok(&form)
-    );
+    assert_eq!(capvet::is_canonical_words(&form, it.limits), Ok(true));
+    let words = it.limits.message_words().max(form.len() as u64 / 8);
+    let limits = it.limits.with_allow_amplified(true);
+    let again = capvet::vet_words(&form, limits.with_message_words(words));
+    let again = again.expect("a form is accepted");
+    let again = again.as_message();
+    assert!(again.is_canonical() && again.canonical().as_ref() == Ok(&form));
+    let is_same = message.segments().eq([&form[..]]);
+    assert_eq!(message.is_canonical(), is_same);
+    let first = message.first_difference();
+    assert_eq!(first.is_none(), is_same);
+    if let Some(first) = first {
+        assert_eq!(first.path(&message).is_some(), first.pointer().is_some());
+    }
     let mut out = vec![0xa5; it.choose(form.len() + 9)];
-    match capvet::canonical_into(it.bytes, it.limits, &mut out) {
-        Ok((length, _)) => {
+    match message.canonical_into(&mut out) {
+        Ok(length) => {
             assert!(out[..length] == form && out[length..].iter().all(|byte| *byte == 0xa5))
         }
-        Err(_) => assert!(out.len() < form.len() && out.iter().all(|byte| *byte == 0xa5)),
+        Err(CanonicalError::BufferTooSmall { required, .. }) => {
+            assert!(required == form.len() && required > out.len());
+            assert!(out.iter().all(|byte| *byte == 0xa5));
+        }
+        Err(error) => panic!("{error}"),
     }
 }
 
-/// The lines of the messages of a stream, by their bytes. The last one is an error of the frame.
+/// The messages of a stream, by their bytes. The last one is an error of the frame.
 fn lines(bytes: &[u8], limits: Limits) -> Vec<Result<Report, VetError>> {
     capvet::messages(bytes, limits)
         .map(|message| {
             let message = message?;
-            let (limits, kept) = (limits.allow_trailing(false), message);
-            assert_eq!(kept, message);
-            assert_eq!(
-                capvet::vet(message.bytes(), limits).as_ref(),
-                Ok(message.report())
-            );
+            assert_eq!(capvet::vet(message.bytes(), limits), Ok(message));
             Ok(*message.report())
         })
         .take(MESSAGES)
@@ -138,120 +153,165 @@ fn lines(bytes: &[u8], limits: Limits) -> Vec<Result<Report, VetError>> {
 }
 
 /// What a reader of a stream gives, where a reader that isn't ready is asked again.
-fn read<I>(items: I) -> Vec<Result<Report, VetError>>
+fn read<I>(items: I, limits: Limits) -> Vec<Result<Report, VetError>>
 where
-    I: Iterator<Item = Result<capvet::MessageBuf, ReadError>>,
+    I: Iterator<Item = Result<MessageBuf, ReadError>>,
 {
+    let mut number = 0;
     items
         .filter_map(|item| match item {
             Ok(message) => {
-                let report = *message.report();
-                assert_eq!(message.bytes().len(), report.length);
-                assert_eq!(message.as_ref().to_vec(), message.clone().into_bytes());
-                Some(Ok(report))
+                number += 1;
+                Some(Ok(*message.report()))
             }
-            Err(ReadError::NotAccepted(error)) => Some(Err(error)),
-            Err(error @ ReadError::Io(_)) => {
-                assert_ne!(error.to_string(), "");
-                let error = std::io::Error::from(error);
-                assert_eq!(error.kind(), std::io::ErrorKind::WouldBlock);
+            Err(ReadError::NotAccepted(error)) => {
+                assert_eq!(error.number, number);
+                number += 1;
+                if matches!(error.error, VetError::Refused(_)) {
+                    assert_eq!(
+                        capvet::vet(&error.unvetted, limits).err(),
+                        Some(error.error)
+                    );
+                }
+                explaining::explain_kept(&error, limits);
+                Some(Err(error.error))
+            }
+            Err(error) => {
+                assert_eq!(std::io::Error::from(error).kind(), ErrorKind::WouldBlock);
                 None
             }
-            Err(error) => panic!("{}", error),
         })
         .take(MESSAGES)
         .collect()
 }
 
-/// A stream has the same messages in pieces, and packed.
-fn streams(it: &mut Input) {
-    let (bytes, limits) = (it.bytes, it.limits.allow_trailing(false));
-    if limits.has_no_table() {
-        return;
+/// What a feed gives of bytes in pieces of any size.
+fn fed(it: &mut Input, mut feed: Feed, mut bytes: &[u8]) -> Vec<Result<MessageBuf, ReadError>> {
+    let mut items = Vec::new();
+    while !bytes.is_empty() && items.len() < MESSAGES {
+        let (piece, rest) = bytes.split_at(1 + it.choose(bytes.len().min(99)));
+        feed.push(piece);
+        items.extend(feed.by_ref().map(|it| it.map_err(ReadError::NotAccepted)));
+        bytes = rest;
     }
-    let expected = lines(bytes, limits);
-    let got = read(capvet::read_messages(
+    feed.finish();
+    items.extend(feed.by_ref().map(|it| it.map_err(ReadError::NotAccepted)));
+    assert!(feed.is_over());
+    items
+}
+
+/// The bytes of accepted messages before the first that isn't, by a reader.
+fn passed(it: &mut Input, expected: &[Result<Report, VetError>]) {
+    let (bytes, limits) = (it.bytes, it.limits);
+    let count = expected.iter().take_while(|it| it.is_ok()).count();
+    let length: usize = expected[..count].iter().flatten().map(|it| it.length).sum();
+    let mut reader = VettedReader::new(
         Pieces {
             input: it,
             rest: bytes,
         },
         limits,
-    ));
-    assert_eq!(expected, got);
-    let packed = match capvet::pack(&bytes[..bytes.len() / 8 * 8]) {
+    );
+    let mut out = Vec::new();
+    let end = loop {
+        match reader.read_to_end(&mut out) {
+            Err(error) if error.kind() == ErrorKind::WouldBlock => {}
+            result => break result,
+        }
+    };
+    assert_eq!(end.is_ok(), reader.refused().is_none());
+    if end.is_err() {
+        // nothing of a refused message comes later either
+        assert!(reader.read_to_end(&mut out).is_err());
+    }
+    if expected.len() < MESSAGES {
+        assert!(out == bytes[..length]);
+        let refused = reader.refused().map(|it| it.error);
+        assert_eq!(refused, expected.get(count).and_then(|it| it.err()));
+    }
+}
+
+/// A stream has the same messages in pieces, and packed.
+fn streams(it: &mut Input) {
+    let (bytes, limits) = (it.bytes, it.limits);
+    let expected = lines(bytes, limits);
+    let pieces = Pieces {
+        input: it,
+        rest: bytes,
+    };
+    assert_eq!(
+        expected,
+        read(capvet::read_messages(pieces, limits), limits)
+    );
+    let got = read(fed(it, Feed::new(limits), bytes).into_iter(), limits);
+    assert!(got == expected || expected.len() == MESSAGES);
+    passed(it, &expected);
+    let words = &bytes[..bytes.len() / 8 * 8];
+    let packed = match capvet::pack_words(words) {
         Ok(packed) => packed,
         Err(error) => panic!("{}", error),
     };
-    let got = read(capvet::read_packed_messages(
-        Pieces {
-            input: it,
-            rest: &packed,
-        },
-        limits,
-    ));
+    assert_eq!(capvet::unpack_words(&packed, MOST).as_deref(), Ok(words));
+    let pieces = Pieces {
+        input: it,
+        rest: &packed,
+    };
+    let got = read(capvet::read_packed_messages(pieces, limits), limits);
     // (a packed stream requires other numbers of bytes where it is cut, and a part of a word isn't packed)
     let is_whole = |it: &&Result<Report, VetError>| {
         !matches!(it, Err(VetError::Frame(FrameError::Truncated { .. })))
     };
-    assert!(expected
-        .iter()
-        .filter(is_whole)
-        .eq(got.iter().filter(is_whole)));
-    assert_eq!(
-        capvet::unpack(&packed, MOST).as_deref(),
-        Ok(&bytes[..bytes.len() / 8 * 8])
-    );
-    // (any bytes as a packed stream: nothing is left out by pieces)
-    let whole = read(capvet::read_packed_messages(bytes, limits));
-    let got = read(capvet::read_packed_messages(
-        Pieces {
-            input: it,
-            rest: bytes,
-        },
-        limits,
-    ));
-    assert!(whole
-        .iter()
-        .filter(is_whole)
-        .eq(got.iter().filter(is_whole)));
-}
-
-fn text(steps: &[Step]) -> String {
-    let step = |step: &Step| match step {
-        Step::Pointer(number) => format!("/p{}", number),
-        Step::Element(number) => format!("/i{}", number),
+    let is_same = |one: &[_], other: &[_]| {
+        one.iter()
+            .filter(is_whole)
+            .eq(other.iter().filter(is_whole))
     };
-    match steps {
-        [] => "/".to_owned(),
-        _ => steps.iter().map(step).collect(),
-    }
+    assert!(is_same(&expected, &got));
+    // (any bytes as a packed stream: nothing is left out by pieces)
+    let whole = read(capvet::read_packed_messages(bytes, limits), limits);
+    let pieces = Pieces {
+        input: it,
+        rest: bytes,
+    };
+    let got = read(capvet::read_packed_messages(pieces, limits), limits);
+    assert!(is_same(&whole, &got));
+    let got = read(fed(it, Feed::packed(limits), bytes).into_iter(), limits);
+    assert!(is_same(&whole, &got) || whole.len() == MESSAGES);
 }
 
 /// The nodes at a series of paths are those of each path.
-fn series(it: &mut Input, steps: &[Step]) {
+fn series(it: &mut Input, message: Option<Message<'_>>, steps: &[Step]) {
     let varying = it.choose(steps.len());
     let mut path = steps.to_vec();
-    for node in capvet::nodes(it.bytes, steps, varying, it.limits).take(40) {
-        let one = capvet::node(it.bytes, &text(&path), it.limits);
-        assert_eq!(node.map(Some), one);
+    for node in capvet::peek_range(it.bytes, steps, varying, it.limits).take(40) {
+        assert_eq!(node, capvet::peek(it.bytes, &path, it.limits));
+        if let (Some(message), Ok(node)) = (message, node) {
+            assert_eq!(message.get(&path), node);
+        }
         path[varying] = match path[varying] {
             Step::Pointer(number) => Step::Pointer(number.saturating_add(1)),
             Step::Element(number) => Step::Element(number.saturating_add(1)),
         };
     }
+    if let Some(message) = message {
+        let nodes = message.get_range(steps, varying);
+        assert_eq!(nodes.len().min(40), nodes.take(40).count());
+    }
 }
 
 /// Paths from the root on.
-fn paths(it: &mut Input, is_accepted: bool) {
+fn paths(it: &mut Input) {
+    let message = capvet::vet(it.bytes, it.limits).ok();
     let mut steps = Vec::new();
     while steps.len() < 6 {
-        let found = capvet::node(it.bytes, &text(&steps), it.limits);
-        assert!(!is_accepted || found.is_ok() || it.limits.has_no_table());
+        let found = capvet::peek(it.bytes, &steps, it.limits);
+        assert!(message.is_none() || found.is_ok());
         let node = match found {
             Ok(Some(node)) => node,
             Ok(None) => return,
             Err(error) => return assert_ne!(error.to_string(), ""),
         };
+        assert!(message.map_or(true, |message| message.get(&steps) == Some(node)));
         assert_ne!(node.to_string(), "");
         let _ = (
             node.text(),
@@ -265,13 +325,21 @@ fn paths(it: &mut Input, is_accepted: bool) {
         for element in elements.take(9) {
             assert_eq!(element.data().len() % 8, 0);
         }
-        let below = it.choose(12) as u32;
+        let below = it.choose(12);
         steps.push(match node.kind() {
-            capvet::Kind::Struct { .. } => Step::Pointer(below),
-            _ => Step::Element(below),
+            capvet::Kind::Struct { .. } => Step::Pointer(below as u16),
+            _ => Step::Element(below as u32),
         });
-        series(it, &steps);
+        series(it, message, &steps);
     }
+}
+
+/// The lowest limits of a reader for one reading.
+fn least(report: &Report) -> ReaderOptions {
+    let mut options = ReaderOptions::new();
+    options.traversal_limit_in_words(Some(report.reader_words(1) as usize));
+    options.nesting_limit(report.reader_nesting() as i32);
+    options
 }
 
 /// The crate `capnp` reads what is accepted, wherever the bytes are.
@@ -284,22 +352,20 @@ fn readers(it: &mut Input) {
         (Ok(one), Ok(other)) => {
             assert_eq!(one.report(), other.report());
             let texts = [
-                walk::walk(&Reader::new(&one, one.least_options(1)), false),
-                walk::walk(&Reader::new(&other, other.least_options(1)), true),
+                walk::walk(&Reader::new(&one, least(one.report())), false),
+                walk::walk(&Reader::new(&other, least(one.report())), true),
                 walk::walk(&other.into_reader(), false),
             ];
-            if !it.limits.allows_nonstrict() {
+            if !it.limits.allow_nonstrict() {
                 let report = one.report();
                 let end = format!(" pointers {} caps {}", report.pointers, report.capabilities);
                 for text in texts {
                     assert!(text.expect("an accepted message is read").ends_with(&end));
                 }
             }
-            let again = capvet_capnp::vet_segments(&one, it.limits);
-            assert_eq!(
-                again.expect("its segments are accepted").charge,
-                one.report().charge
-            );
+            let again = capvet_capnp::vetted_segments(&one, it.limits);
+            let again: Vetted = again.expect("its segments are accepted");
+            assert_eq!(again.report(), one.report());
         }
         (Err(one), Err(other)) => assert_eq!(one, other),
         (one, other) => panic!("{:?} {:?}", one.is_ok(), other.is_ok()),
@@ -318,19 +384,19 @@ pub unsafe extern "C" fn LLVMFuzzerTestOneInput(data: *const u8, size: usize) ->
     }
     let data = std::slice::from_raw_parts(data, size);
     if let Some(mut it) = Input::of(data) {
-        let verdict = vet(&it);
-        segments(&it, &verdict);
-        exclusive(&mut it, &verdict);
-        canonical(&mut it, &verdict);
+        if let Ok(message) = vet(&it) {
+            canonical(&mut it, message.as_message());
+        }
+        segments(&it);
+        exclusive(&mut it);
         streams(&mut it);
-        paths(&mut it, verdict.is_ok());
+        paths(&mut it);
         readers(&mut it);
-        explaining::explain(&it, &verdict);
+        explaining::explain(it.bytes, it.limits);
         errors::errors(&mut it);
         errors::packed_message(&mut it);
         errors::for_capnp(&it);
         errors::readers(&it);
-        errors::limits(it.limits);
     }
     0
 }
