@@ -75,20 +75,22 @@ typedef capvet_answer (*reporting)(const uint8_t *, size_t, const capvet_limits 
 static const struct {
   const char *name;
   reporting call;
-} CALLS[] = {{"capvet_frame", capvet_frame}, {"capvet_vet", capvet_vet}, {"capvet_is_canonical", capvet_is_canonical}};
+} CALLS[] = {{"capvet_frame", capvet_frame}, {"capvet_vet", capvet_vet}, {"capvet_check_canonical", capvet_check_canonical},
+             {"capvet_first_difference", capvet_first_difference}};
 
 enum {
-  FRAME, VET, IS_CANONICAL, UNPACK, PACK, EXCLUSIVE, SEGMENT_AT, VET_SEGMENTS, GET, GET_RANGE, POINTER_PATH, EARLIER,
-  EXPLAIN, PACK_MESSAGE, UNPACK_MESSAGE, COUNT
+  FRAME, VET, IS_CANONICAL, DIFFERENCE, UNPACK, PACK, EXCLUSIVE, SEGMENTS, VET_SEGMENTS, GET, GET_RANGE, POINTER_PATH, EARLIER,
+  EXPLAIN, OVERLAP, PACK_MESSAGE, UNPACK_MESSAGE, COUNT
 };
 
 /* How often each call gave each answer. */
 static unsigned long seen[COUNT][64];
 
 static void answered(int call, unsigned long before, uint32_t answer) {
-  static const char *const others[] = {"capvet_unpack", "capvet_pack", "capvet_vet_exclusive", "capvet_segment_at",
+  static const char *const others[] = {"capvet_unpack_words", "capvet_pack_words", "capvet_vet_exclusive", "capvet_segments",
                                        "capvet_vet_segments", "capvet_get", "capvet_get_range",
                                        "capvet_pointer_path", "capvet_earlier_pointer", "capvet_explain",
+                                       "capvet_explain_overlap",
                                        "capvet_pack_message", "capvet_unpack_message"};
   const char *name = call >= UNPACK ? others[call - UNPACK] : CALLS[call].name;
   expect(taken == before, name, taken - before);
@@ -97,11 +99,11 @@ static void answered(int call, unsigned long before, uint32_t answer) {
 
 static const capvet_limits LIMITS[] = {
     CAPVET_LIMITS_INIT,
-    {8388608, 8388608, 64, CAPVET_ALLOW_TRAILING, {0, 0}},
-    {8388608, 100, 64, CAPVET_ALLOW_TRAILING | CAPVET_ALLOW_NONSTRICT, {0, 0}},
-    {8388608, 8388608, 3, CAPVET_ALLOW_TRAILING | CAPVET_ALLOW_AMPLIFIED, {0, 0}},
-    {100, 100, 64, 0, {0, 0}},
-    {8388608, 8388608, 257, 0, {0, 0}}};
+    {8388608, 8388608, 64, 0, CAPVET_FORM_PREFIX, 0, {0, 0, 0, 0, 0, 0}},
+    {8388608, 100, 64, CAPVET_ALLOW_NONSTRICT, CAPVET_FORM_PREFIX, 0, {0, 0, 0, 0, 0, 0}},
+    {8388608, 8388608, 3, CAPVET_ALLOW_AMPLIFIED, CAPVET_FORM_PREFIX, 0, {0, 0, 0, 0, 0, 0}},
+    {100, 100, 64, 0, CAPVET_FORM_WHOLE, 0, {0, 0, 0, 0, 0, 0}},
+    {8388608, 8388608, 257, 0, CAPVET_FORM_WHOLE, 0, {0, 0, 0, 0, 0, 0}}};
 
 /* Each call that reports. */
 static void reports(const uint8_t *bytes, size_t length) {
@@ -168,6 +170,7 @@ static void ranges(const uint8_t *bytes, size_t length) {
 /* The pointer that a verdict names or the last one, with and without capacity, and one that there isn't. Then the earlier
  * pointer that shares a word with it. */
 static void paths(const uint8_t *bytes, size_t length) {
+  static char text[CAPVET_OVERLAP_BOUND];
   capvet_step steps[CAPVET_MAX_DEPTH];
   capvet_report report;
   size_t required, capacity;
@@ -186,6 +189,11 @@ static void paths(const uint8_t *bytes, size_t length) {
   before = taken;
   answer = capvet_earlier_pointer(bytes, length, &LIMITS[1], number, &report);
   answered(EARLIER, before, answer);
+  for (capacity = 0; capacity <= sizeof text; capacity += sizeof text) {
+    before = taken;
+    answer = capvet_explain_overlap(bytes, length, &LIMITS[1], 0, 0, number, text, capacity, &required, &report);
+    answered(OVERLAP, before, answer);
+  }
 }
 
 /* Within each of the limits, without a buffer, and with one. */
@@ -205,15 +213,18 @@ static void explanations(const uint8_t *bytes, size_t length) {
 static void segments(const uint8_t *bytes, size_t length) {
   capvet_segment parts[2] = {{NULL, 0}, {NULL, 0}};
   capvet_report report;
-  size_t offset, own;
-  uint32_t index, answer;
+  static capvet_extent extents[CAPVET_MAX_SEGMENTS];
+  size_t index, count, capacity;
+  uint32_t answer = CAPVET_NO_MESSAGE;
   unsigned long before;
-  for (index = 0; index < 2; index++) {
+  for (capacity = 0; capacity <= CAPVET_MAX_SEGMENTS; capacity += CAPVET_MAX_SEGMENTS) {
     before = taken;
-    answer = capvet_segment_at(bytes, length, index, &offset, &own);
-    answered(SEGMENT_AT, before, answer);
-    if (answer == CAPVET_OK) parts[index].bytes = bytes + offset;
-    parts[index].length = own;
+    answer = capvet_segments(bytes, length, &LIMITS[0], extents, capacity, &count, &report);
+    answered(SEGMENTS, before, answer);
+  }
+  for (index = 0; index < 2 && answer == CAPVET_OK && index < count; index++) {
+    parts[index].bytes = bytes + extents[index].offset;
+    parts[index].length = (size_t)extents[index].length;
   }
   before = taken;
   answer = capvet_vet_segments(parts, 2, &LIMITS[0], &report);
@@ -267,8 +278,8 @@ static void parts(const uint8_t *bytes, size_t length) {
     paths(bytes, at);
     explanations(bytes, at);
     messages(bytes, at);
-    encodes(UNPACK, capvet_unpack, bytes, at);
-    encodes(PACK, capvet_pack, bytes, at);
+    encodes(UNPACK, capvet_unpack_words, bytes, at);
+    encodes(PACK, capvet_pack_words, bytes, at);
   }
   for (at = 0; at <= length; at += 8) {
     reports(bytes + at, length - at);
@@ -291,12 +302,16 @@ static const struct {
               {VET, CAPVET_WORD_LIMIT},
               {IS_CANONICAL, CAPVET_OK},
               {IS_CANONICAL, CAPVET_NOT_CANONICAL},
+              {DIFFERENCE, CAPVET_OK},
+              {DIFFERENCE, CAPVET_NOT_CANONICAL},
+              {DIFFERENCE, CAPVET_TRAILING},
               {EXCLUSIVE, CAPVET_OK},
               {EXCLUSIVE, CAPVET_BUFFER_TOO_SMALL},
               {EXCLUSIVE, CAPVET_OVERLAP},
               {EXCLUSIVE, CAPVET_TRUNCATED},
-              {SEGMENT_AT, CAPVET_OK},
-              {SEGMENT_AT, CAPVET_NO_SEGMENT},
+              {SEGMENTS, CAPVET_OK},
+              {SEGMENTS, CAPVET_BUFFER_TOO_SMALL},
+              {SEGMENTS, CAPVET_TRUNCATED},
               {VET_SEGMENTS, CAPVET_OK},
               {VET_SEGMENTS, CAPVET_NO_ROOT},
               {GET, CAPVET_OK},
@@ -316,8 +331,7 @@ static const struct {
               {EARLIER, CAPVET_TRUNCATED},
               {EXPLAIN, CAPVET_OK},
               {EXPLAIN, CAPVET_BAD_LIMITS},
-              {EXPLAIN, CAPVET_BUFFER_TOO_SMALL},
-              {EXPLAIN, CAPVET_NO_NODE},
+              {EXPLAIN, CAPVET_DEPTH_LIMIT},
               {EXPLAIN, CAPVET_TRAILING},
               {EXPLAIN, CAPVET_TRUNCATED},
               {PACK_MESSAGE, CAPVET_OK},

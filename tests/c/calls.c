@@ -26,7 +26,7 @@ static uint8_t *block(const uint8_t *bytes, size_t length, size_t odd) {
 }
 
 /* The default limits, and bytes may follow the message. */
-static const capvet_limits LIMITS = {8388608, 8388608, 64, CAPVET_ALLOW_TRAILING, {0, 0}};
+static const capvet_limits LIMITS = {8388608, 8388608, 64, 0, CAPVET_FORM_PREFIX, 0, {0, 0, 0, 0, 0, 0}};
 static const capvet_limits WHOLE = CAPVET_LIMITS_INIT;
 
 /* A report that no call has written. */
@@ -43,17 +43,20 @@ static const uint8_t TWO[64] = {
 
 /* The places of the fields, by numbers. */
 static void layout(void) {
-  EXPECT(sizeof(capvet_limits) == 40, "size of limits", sizeof(capvet_limits));
+  EXPECT(sizeof(capvet_limits) == 80, "size of limits", sizeof(capvet_limits));
   EXPECT(offsetof(capvet_limits, charge) == 8, "limits.charge", offsetof(capvet_limits, charge));
   EXPECT(offsetof(capvet_limits, depth) == 16, "limits.depth", offsetof(capvet_limits, depth));
   EXPECT(offsetof(capvet_limits, flags) == 20, "limits.flags", offsetof(capvet_limits, flags));
-  EXPECT(offsetof(capvet_limits, reserved) == 24, "limits.reserved", offsetof(capvet_limits, reserved));
+  EXPECT(offsetof(capvet_limits, form) == 24, "limits.form", offsetof(capvet_limits, form));
+  EXPECT(offsetof(capvet_limits, padding) == 28, "limits.padding", offsetof(capvet_limits, padding));
+  EXPECT(offsetof(capvet_limits, reserved) == 32, "limits.reserved", offsetof(capvet_limits, reserved));
   EXPECT(sizeof(capvet_segment) == 16 && offsetof(capvet_segment, length) == 8, "a segment", sizeof(capvet_segment));
-  EXPECT(sizeof(capvet_report) == 96, "size of a report", sizeof(capvet_report));
+  EXPECT(sizeof(capvet_report) == 120, "size of a report", sizeof(capvet_report));
   EXPECT(offsetof(capvet_report, capabilities) == 40, "report.capabilities", offsetof(capvet_report, capabilities));
   EXPECT(offsetof(capvet_report, depth) == 48, "report.depth", offsetof(capvet_report, depth));
   EXPECT(offsetof(capvet_report, word) == 60, "report.word", offsetof(capvet_report, word));
-  EXPECT(offsetof(capvet_report, reserved) == 64, "report.reserved", offsetof(capvet_report, reserved));
+  EXPECT(offsetof(capvet_report, words) == 64, "report.words", offsetof(capvet_report, words));
+  EXPECT(offsetof(capvet_report, reserved) == 72, "report.reserved", offsetof(capvet_report, reserved));
   EXPECT(sizeof(capvet_node) == 56, "size of a node", sizeof(capvet_node));
   EXPECT(offsetof(capvet_node, capability) == 20, "node.capability", offsetof(capvet_node, capability));
   EXPECT(offsetof(capvet_node, offset) == 24, "node.offset", offsetof(capvet_node, offset));
@@ -77,7 +80,8 @@ static void fields(void) {
     EXPECT(r.segment == 1, "segment", r.segment);
     EXPECT(r.word == 3, "word", r.word);
     EXPECT(r.segments == 2, "segments", r.segments);
-    EXPECT((r.reserved[0] | r.reserved[1] | r.reserved[2] | r.reserved[3]) == 0, "reserved", r.reserved[0]);
+    EXPECT((r.reserved[0] | r.reserved[1] | r.reserved[2] | r.reserved[3] | r.reserved[4] | r.reserved[5]) == 0, "reserved",
+           r.reserved[0]);
     EXPECT(memcmp(whole + odd, TWO, sizeof TWO) == 0, "the bytes stay", odd);
     free(whole);
   }
@@ -162,7 +166,7 @@ static void faults(void) {
   l.message_words = CAPVET_MAX_MESSAGE_WORDS;
   l.charge = CAPVET_MAX_CHARGE;
   l.depth = CAPVET_MAX_DEPTH;
-  l.flags = CAPVET_ALLOW_TRAILING | CAPVET_ALLOW_NONSTRICT | CAPVET_ALLOW_AMPLIFIED;
+  l.flags = CAPVET_ALLOW_NONSTRICT | CAPVET_ALLOW_AMPLIFIED;
   answers(TWO, sizeof TWO, l, CAPVET_OK, 0, 0);
   l.message_words++;
   answers(TWO, sizeof TWO, l, CAPVET_BAD_LIMITS, 0, 0);
@@ -173,9 +177,9 @@ static void faults(void) {
   l.flags += 16;
   answers(TWO, sizeof TWO, l, CAPVET_BAD_LIMITS, 0, 0);
   l.flags -= 16;
-  l.reserved[1] = 1;
+  l.reserved[5] = 1;
   answers(TWO, sizeof TWO, l, CAPVET_BAD_LIMITS, 0, 0);
-  l.reserved[1] = 0;
+  l.reserved[5] = 0;
   l.depth++;
   answers(many, 0, l, CAPVET_BAD_LIMITS, 0, 0);
   answers(many, 0, LIMITS, CAPVET_NO_MESSAGE, 8, 0);
@@ -254,7 +258,7 @@ static uint32_t unpacked(size_t length, size_t capacity, size_t *written, uint8_
   if (out == NULL) exit(3);
   memset(out, 0xee, capacity + 1);
   *written = 77;
-  answer = capvet_unpack(from + 1, length, out, capacity, written);
+  answer = capvet_unpack_words(from + 1, length, out, capacity, written);
   EXPECT(out[capacity] == 0xee, "a byte after the capacity", capacity);
   memset(after, 0, 64);
   memcpy(after, out, capacity < 64 ? capacity : 64);
@@ -351,15 +355,36 @@ static void copying(void) {
 static const uint8_t OWN_COPY[24] = {0, 0, 0, 0, 2, 0, 0, 0, 0, 0, 0, 0, 1, 0, 0, 0, 7, 0, 0, 0, 0, 0, 0, 0};
 static const uint8_t ZERO_WORD[24] = {0, 0, 0, 0, 2, 0, 0, 0, 0, 0, 0, 0, 1, 0, 0, 0, 0, 0, 0, 0, 0, 0, 0, 0};
 
+/* A struct of two pointers to one struct: a message that is accepted, and of which words are used twice. */
+static const uint8_t SHARED[40] = {0, 0, 0, 0, 4, 0, 0, 0, 0, 0, 0, 0, 0, 0, 2, 0, 4, 0, 0, 0,
+                                   1, 0, 0, 0, 0, 0, 0, 0, 1, 0, 0, 0, 7, 0, 0, 0, 0, 0, 0, 0};
+
 /* Whether a message is canonical: the answer, and the fields of its report. */
 static void checks(const uint8_t *bytes, size_t length, uint32_t answer, uint64_t whole, uint64_t charge,
                    uint32_t segments) {
   uint8_t *from = block(bytes, length, 1);
   capvet_report r = unwritten();
-  uint32_t got = capvet_is_canonical(from + 1, length, &LIMITS, &r);
+  uint32_t got = capvet_check_canonical(from + 1, length, &LIMITS, &r);
   EXPECT(got == answer, "whether a message is canonical", got);
   EXPECT(r.length == whole && r.detail == 0, "the frame of a checked message", r.length);
   EXPECT(r.charge == charge && r.segments == segments, "the tree of a checked message", r.charge);
+  free(from);
+}
+
+/* Why a message isn't canonical: the fields of its report that differ from those of the check. */
+static void differs(const uint8_t *bytes, size_t length, uint64_t reason, uint32_t word, uint64_t pointers) {
+  uint8_t *from = block(bytes, length, 1);
+  capvet_report r = unwritten(), check = unwritten();
+  EXPECT(capvet_first_difference(from + 1, length, &LIMITS, &r) == CAPVET_NOT_CANONICAL, "a first difference", reason);
+  EXPECT(capvet_check_canonical(from + 1, length, &LIMITS, &check) == CAPVET_NOT_CANONICAL, "no canonical message", reason);
+  EXPECT(r.detail == reason, "the reason of a first difference", r.detail);
+  EXPECT(r.segment == 0 && r.word == word, "the place of a first difference", r.word);
+  EXPECT(r.pointers == pointers, "the number of a first difference", r.pointers);
+  check.detail = r.detail;
+  check.segment = r.segment;
+  check.word = r.word;
+  check.pointers = r.pointers;
+  EXPECT(memcmp(&r, &check, sizeof r) == 0, "the other fields of a first difference", reason);
   free(from);
 }
 
@@ -367,14 +392,13 @@ static void checking(void) {
   checks(OWN_COPY, sizeof OWN_COPY, CAPVET_OK, 24, 1, 1);
   checks(ZERO_WORD, sizeof ZERO_WORD, CAPVET_NOT_CANONICAL, 24, 1, 1);
   checks(TWO, 56, CAPVET_NOT_CANONICAL, 56, 4, 2);
+  differs(ZERO_WORD, sizeof ZERO_WORD, CAPVET_DIFFERENCE_DATA_ZERO, 0, 1);
+  differs(TWO, 56, CAPVET_DIFFERENCE_SEGMENTS, 0, 0);
+  differs(SHARED, sizeof SHARED, CAPVET_DIFFERENCE_PLACE, 2, 3);
 }
 
 /* A struct whose pointer leads back to itself: a message that is refused. */
 static const uint8_t REFUSING[16] = {0, 0, 0, 0, 1, 0, 0, 0, 0xfc, 0xff, 0xff, 0xff, 0, 0, 1, 0};
-
-/* A struct of two pointers to one struct: a message that is accepted, and of which words are used twice. */
-static const uint8_t SHARED[40] = {0, 0, 0, 0, 4, 0, 0, 0, 0, 0, 0, 0, 0, 0, 2, 0, 4, 0, 0, 0,
-                                   1, 0, 0, 0, 0, 0, 0, 0, 1, 0, 0, 0, 7, 0, 0, 0, 0, 0, 0, 0};
 
 /* The answer for a message, with `capacity` numbers for its marks. These numbers and one more are all ones before.
  * `kept` is how many of them still are, counted back from the last. */
@@ -440,18 +464,22 @@ static void marking(void) {
 
 /* Where the segments of a message are, of which bytes follow the frame. */
 static void places(void) {
-  size_t at = 77, size = 77, length;
+  capvet_extent all[3] = {{7, 7}, {7, 7}, {7, 7}};
+  capvet_report r;
+  size_t required = 77, length;
   uint8_t *whole = block(TWO, sizeof TWO, 1);
-  EXPECT(capvet_segment_at(whole + 1, sizeof TWO, 0, &at, &size) == CAPVET_OK && at == 16 && size == 8, "segment 0", at);
-  EXPECT(capvet_segment_at(whole + 1, sizeof TWO, 1, &at, &size) == CAPVET_OK && at == 24 && size == 32, "segment 1", at);
-  EXPECT(capvet_segment_at(whole + 1, sizeof TWO, 2, &at, &size) == CAPVET_NO_SEGMENT && at == 0 && size == 0,
-         "segment 2", at);
-  EXPECT(capvet_segment_at(whole + 1, sizeof TWO, UINT32_MAX, &at, &size) == CAPVET_NO_SEGMENT && at == 0 && size == 0,
-         "the last number", at);
+  EXPECT(capvet_segments(whole + 1, sizeof TWO, &LIMITS, all, 1, &required, &r) == CAPVET_BUFFER_TOO_SMALL && required == 2 &&
+             all[0].offset == 7 && r.segments == 2 && r.length == 56,
+         "segments for one", required);
+  EXPECT(capvet_segments(whole + 1, sizeof TWO, &LIMITS, all, 3, &required, &r) == CAPVET_OK && required == 2, "segments",
+         required);
+  EXPECT(all[0].offset == 16 && all[0].length == 8 && all[1].offset == 24 && all[1].length == 32 && all[2].offset == 7 &&
+             all[2].length == 7 && r.segments == 2 && r.length == 56,
+         "where they are", (size_t)all[1].offset);
   for (length = 1; length < 56; length++) {
-    at = size = 77;
-    EXPECT(capvet_segment_at(whole + 1, length, 0, &at, &size) == CAPVET_TRUNCATED && at == 0 && size == 0,
-           "a segment of a front", length);
+    required = 77;
+    EXPECT(capvet_segments(whole + 1, length, &LIMITS, all, 3, &required, &r) == CAPVET_TRUNCATED && required == 0,
+           "segments of a front", length);
   }
   free(whole);
 }
@@ -462,13 +490,16 @@ static void words(void) {
   capvet_report r = unwritten();
   uint8_t *whole = block(COPIED, sizeof COPIED, 1);
   size_t required = 77;
-  l.flags = CAPVET_NO_TABLE;
+  l.form = CAPVET_FORM_WORDS;
   EXPECT(capvet_vet(whole + 1, 32, &l, &r) == CAPVET_OK && r.length == 32 && r.segments == 1, "vet of words", r.length);
-  EXPECT(capvet_is_canonical(whole + 1, 32, &l, &r) == CAPVET_OK && r.charge == 3, "is_canonical of words", r.charge);
+  EXPECT(capvet_check_canonical(whole + 1, 32, &l, &r) == CAPVET_OK && r.charge == 3, "check_canonical of words", r.charge);
+  EXPECT(capvet_first_difference(whole + 1, 32, &l, &r) == CAPVET_OK && r.charge == 3, "first_difference of words", r.charge);
+  EXPECT(capvet_check_canonical_words(whole + 1, 32, &WHOLE, &r) == CAPVET_OK && r.charge == 3 && r.length == 32,
+         "check_canonical_words", r.charge);
   EXPECT(capvet_vet_exclusive(whole + 1, 32, &l, NULL, 0, &required, &r) == CAPVET_BUFFER_TOO_SMALL && required == 1,
          "vet_exclusive of words", required);
-  EXPECT(capvet_pack(NULL, 0, NULL, 0, &required) == CAPVET_OK && required == 0, "an empty result", required);
-  EXPECT(capvet_unpack(NULL, 0, NULL, 0, &required) == CAPVET_OK && required == 0, "no words of nothing", required);
+  EXPECT(capvet_pack_words(NULL, 0, NULL, 0, &required) == CAPVET_OK && required == 0, "an empty result", required);
+  EXPECT(capvet_unpack_words(NULL, 0, NULL, 0, &required) == CAPVET_OK && required == 0, "no words of nothing", required);
   EXPECT(capvet_canonical(whole + 1, 32, &l, NULL, 0, &required, &r) == CAPVET_BUFFER_TOO_SMALL && required == 32,
          "canonical of words", required);
   EXPECT(capvet_vet(whole + 1, 31, &l, &r) == CAPVET_TRUNCATED && r.input_required == 32, "a part of a word", r.input_required);
@@ -477,9 +508,17 @@ static void words(void) {
   EXPECT(capvet_vet(whole + 1, 23, &l, &r) == CAPVET_TRUNCATED && r.input_required == 24, "words up to the limit",
          r.input_required);
   EXPECT(capvet_vet(NULL, 0, &l, &r) == CAPVET_NO_MESSAGE, "no words", r.input_required);
+  /* the words of a canonical form may be one more than its charge, whatever the limit of words is */
+  l.charge = 3;
+  EXPECT(capvet_check_canonical_words(whole + 1, 32, &l, &r) == CAPVET_OK, "words within the charge", r.detail);
+  l.charge = 2;
+  EXPECT(capvet_check_canonical_words(whole + 1, 32, &l, &r) == CAPVET_TOO_LARGE && r.detail == 4, "words past the charge",
+         r.detail);
+  l.charge = WHOLE.charge;
   EXPECT(capvet_frame(whole + 1, 32, &l, &r) == CAPVET_BAD_LIMITS, "a frame without a table", r.length);
-  l.flags |= CAPVET_ALLOW_TRAILING;
-  EXPECT(capvet_vet(whole + 1, 32, &l, &r) == CAPVET_BAD_LIMITS, "trailing words", r.length);
+  l.form = CAPVET_FORM_WORDS + 1;
+  EXPECT(capvet_vet(whole + 1, 32, &l, &r) == CAPVET_BAD_LIMITS, "an unknown form", r.length);
+  EXPECT(capvet_check_canonical_words(whole + 1, 32, &l, &r) == CAPVET_BAD_LIMITS, "an unknown form of words", r.length);
   free(whole);
 }
 
@@ -495,6 +534,15 @@ static void separate(void) {
   EXPECT(capvet_vet_segments(parts, 2, &WHOLE, &r) == CAPVET_OK && r.length == 40 && r.segments == 2, "two segments",
          r.length);
   EXPECT(r.charge == 4 && r.pointers == 3 && r.capabilities == 1 && r.segment == 1 && r.word == 3, "their tree", r.charge);
+  EXPECT(r.words == 5 && capvet_reader_words(&r, 1) == 14 && capvet_reader_words(&r, 3) == 42 && capvet_reader_words(&r, 0) == 0,
+         "words for a reader", r.words);
+  EXPECT(capvet_reader_nesting(&r) == 2 * r.depth + 1, "levels for a reader", r.depth);
+  r.words = 15;
+  EXPECT(capvet_reader_words(&r, 2) == 30, "a reader of words that nothing leads to", r.words);
+  r.charge = UINT64_MAX / 3 + 1;
+  r.depth = UINT32_MAX / 2 + 1;
+  EXPECT(capvet_reader_words(&r, 1) == UINT64_MAX && capvet_reader_words(&r, 0) == 0, "the most words for a reader", r.charge);
+  EXPECT(capvet_reader_nesting(&r) == UINT32_MAX, "the most levels for a reader", r.depth);
   EXPECT(capvet_vet_segments(parts, 1, &WHOLE, &r) == CAPVET_SEGMENT_MISSING && r.length == 8, "one of them", r.length);
   EXPECT(capvet_vet_segments(parts, 512, &LIMITS, &r) == CAPVET_MANY_SEGMENTS && r.segments == 512, "512 segments",
          r.segments);
@@ -517,17 +565,19 @@ static void separate(void) {
 /* Each buffer of each call may be NULL if it is empty. */
 static void nulls(void) {
   capvet_report r;
-  size_t required, own;
+  size_t required;
   r = unwritten();
   EXPECT(capvet_frame(NULL, 0, &LIMITS, &r) == CAPVET_NO_MESSAGE && r.input_required == 8, "frame of NULL", r.input_required);
   r = unwritten();
   EXPECT(capvet_vet(NULL, 0, &LIMITS, &r) == CAPVET_NO_MESSAGE && r.input_required == 8, "vet of NULL", r.input_required);
   r = unwritten();
-  EXPECT(capvet_is_canonical(NULL, 0, &LIMITS, &r) == CAPVET_NO_MESSAGE && r.input_required == 8, "is_canonical of NULL",
+  EXPECT(capvet_first_difference(NULL, 0, &LIMITS, &r) == CAPVET_NO_MESSAGE && r.input_required == 8, "first_difference of NULL",
          r.input_required);
-  required = own = 77;
-  EXPECT(capvet_segment_at(NULL, 0, 0, &required, &own) == CAPVET_NO_MESSAGE && required == 0 && own == 0,
-         "segment_at of NULL", required);
+  EXPECT(capvet_check_canonical(NULL, 0, &LIMITS, &r) == CAPVET_NO_MESSAGE && r.input_required == 8, "check_canonical of NULL",
+         r.input_required);
+  required = 77;
+  EXPECT(capvet_segments(NULL, 0, &LIMITS, NULL, 0, &required, &r) == CAPVET_NO_MESSAGE && required == 0, "segments of NULL",
+         required);
   required = 77;
   EXPECT(capvet_vet_exclusive(NULL, 0, &LIMITS, NULL, 0, &required, &r) == CAPVET_NO_MESSAGE && required == 0,
          "vet_exclusive of NULL", required);
@@ -541,12 +591,12 @@ static void nulls(void) {
              required == sizeof COPIED,
          "a copy in NULL", required);
   required = 77;
-  EXPECT(capvet_pack(NULL, 0, NULL, 0, &required) == CAPVET_OK && required == 0, "pack of NULL", required);
-  EXPECT(capvet_pack(COPIED, 8, NULL, 0, &required) == CAPVET_BUFFER_TOO_SMALL && required == 3, "packed in NULL",
+  EXPECT(capvet_pack_words(NULL, 0, NULL, 0, &required) == CAPVET_OK && required == 0, "pack of NULL", required);
+  EXPECT(capvet_pack_words(COPIED, 8, NULL, 0, &required) == CAPVET_BUFFER_TOO_SMALL && required == 3, "packed in NULL",
          required);
   required = 77;
-  EXPECT(capvet_unpack(NULL, 0, NULL, 0, &required) == CAPVET_OK && required == 0, "unpack of NULL", required);
-  EXPECT(capvet_unpack(PACKED, sizeof PACKED, NULL, 0, &required) == CAPVET_BUFFER_TOO_SMALL && required == 48,
+  EXPECT(capvet_unpack_words(NULL, 0, NULL, 0, &required) == CAPVET_OK && required == 0, "unpack of NULL", required);
+  EXPECT(capvet_unpack_words(PACKED, sizeof PACKED, NULL, 0, &required) == CAPVET_BUFFER_TOO_SMALL && required == 48,
          "unpacked in NULL", required);
 }
 

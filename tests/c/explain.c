@@ -4,8 +4,8 @@
  * A reply is the answer in 4 bytes, `required` in 8, the report and the text. Each buffer is a block of its own of exactly its
  * length, and an empty one is NULL.
  *
- * The status is 4 if a call changed a byte after the text, 5 if the path in the text isn't that of capvet_pointer_path, and 6 if
- * CAPVET_EXPLANATION_BOUND bytes are not enough. */
+ * The status is 4 if a call changed a byte after the text, and 5 if the path in the text isn't that of capvet_pointer_path.
+ * It is 6 if CAPVET_EXPLANATION_BOUND bytes are not enough, and 7 if the answer or the report isn't that of capvet_vet. */
 #include <capvet.h>
 
 #include <inttypes.h>
@@ -66,20 +66,22 @@ int main(int count, char **words) {
   FILE *file = count == 2 ? fopen(words[1], "rb") : NULL;
   if (file == NULL) return 2;
   while (request(file)) {
-    capvet_report report;
+    capvet_report report, verdict;
     size_t required = 77, at, written, head;
     uint64_t reported;
     uint32_t answer;
     memset(&report, 0xa5, sizeof report);
     answer = capvet_explain(input, length, &limits, text, size, &required, &report);
     if (required > CAPVET_EXPLANATION_BOUND) return 6;
-    written = answer == CAPVET_OK ? required : 0;
+    written = required <= size ? required : 0;
     for (at = written; at < size; at++)
       if ((uint8_t)text[at] != 0xa5) return 4;
-    if (answer == CAPVET_OK) {
+    if (answer >= CAPVET_NOT_CANONICAL && written != 0) {
       head = path_line(report.pointers, line);
       if (head > written || memcmp(line, text, head) != 0) return 5;
     }
+    if (capvet_vet(input, length, &limits, &verdict) != (capvet_answer)answer) return 7;
+    if (memcmp(&verdict, &report, sizeof report) != 0) return 7;
     reported = required;
     put(&answer, sizeof answer);
     put(&reported, sizeof reported);

@@ -1,35 +1,21 @@
 /* flags REQUESTS: makes the calls that a file asks for, and writes what each of them answers and reports.
  *
- * The calls are 0 capvet_frame, 1 capvet_vet, 2 capvet_vet_exclusive, 3 capvet_canonical, 4 capvet_is_canonical,
- * 5 capvet_segment_at, 6 capvet_vet_segments. A request is the number of a call, the size or count of its output
- * buffer or the number of the segment, the limits, the length of the input and the input. Separate segments come after
- * their lengths, and the number before the limits is how many they are. The size 0xffffffff of a copy is
- * CAPVET_CANONICAL_BOUND of the input's length. The flags are bits in the order of NAMED.
+ * The calls are 0 capvet_frame, 1 capvet_vet, 2 capvet_vet_exclusive, 3 capvet_canonical, 4 capvet_check_canonical,
+ * 5 capvet_segments, 6 capvet_vet_segments, 7 capvet_check_canonical_words, 8 capvet_first_difference. A request is the
+ * number of a call, the size or count of its output buffer, the limits, the length of the input and the input. Separate
+ * segments come after their lengths, and the number before the limits is how many they are. The size 0xffffffff of a copy
+ * is CAPVET_CANONICAL_BOUND of the input's length.
  *
- * A reply is the answer, `required` in 8 bytes, the report, and the bytes that capvet_canonical wrote. Of a segment
- * `required` is where it starts, and the report has only its length. The other numbers have four bytes. Each
- * buffer is a block of its own of exactly its length, and an empty one is NULL. The status is 4 if a call changed
- * anything of an output buffer that it may not. */
+ * A reply is the answer, `required` in 8 bytes, the report, and the bytes that capvet_canonical or capvet_segments
+ * wrote. The other numbers have four bytes. Each buffer is a block of its own of exactly its length, and an empty
+ * one is NULL. The status is 4 if a call changed anything of an output buffer that it may not. */
 #include <capvet.h>
 
 #include <stdio.h>
 #include <stdlib.h>
 #include <string.h>
 
-enum { FRAME, VET, EXCLUSIVE, CANONICAL, IS_CANONICAL, SEGMENT_AT, VET_SEGMENTS };
-
-/* The flags by their names, the lowest bit of a request first. */
-static const uint32_t NAMED[] = {CAPVET_ALLOW_TRAILING, CAPVET_ALLOW_NONSTRICT, CAPVET_ALLOW_AMPLIFIED,
-                                 CAPVET_NO_TABLE};
-enum { COUNT = sizeof NAMED / sizeof NAMED[0] };
-
-/* The flags of a request. Other bits stay as they are. */
-static uint32_t named(uint32_t bits) {
-  uint32_t flags = bits >> COUNT << COUNT, at;
-  for (at = 0; at < COUNT; at++)
-    if (bits >> at & 1) flags |= NAMED[at];
-  return flags;
-}
+enum { FRAME, VET, EXCLUSIVE, CANONICAL, CHECK, SEGMENTS, VET_SEGMENTS, CHECK_WORDS, DIFFERENCE };
 
 /* Reads a part of a request. */
 static int take(FILE *file, void *to, size_t length) { return length == 0 || fread(to, 1, length, file) == length; }
@@ -74,13 +60,12 @@ int main(int count, char **words) {
     uint8_t *buffer;
     capvet_limits limits;
     capvet_report report;
-    size_t required = 77, item = head[0] == EXCLUSIVE ? 8 : 1, size, own = 77, written = 0;
+    size_t required = 77, item = head[0] == EXCLUSIVE ? 8 : head[0] == SEGMENTS ? 16 : 1, size, written = 0;
     uint8_t *bytes, *out;
     uint64_t reported;
     uint32_t answer;
     if (!take(file, &limits, sizeof limits) || !take(file, &length, sizeof length)) return 3;
-    limits.flags = named(limits.flags);
-    size = head[0] >= SEGMENT_AT ? 0 : head[1] * item;
+    size = head[0] == VET_SEGMENTS ? 0 : head[1] * item;
     if (head[0] == CANONICAL && head[1] == UINT32_MAX) size = CAPVET_CANONICAL_BOUND(length);
     out = malloc(size + item);
     bytes = malloc(length + 1);
@@ -100,21 +85,22 @@ int main(int count, char **words) {
         answer = capvet_canonical(input, length, &limits, buffer, size, &required, &report);
         if (answer == CAPVET_OK) written = required;
         break;
-      case SEGMENT_AT:
-        answer = capvet_segment_at(input, length, head[1], &required, &own);
-        memset(&report, 0, sizeof report);
-        report.length = own;
+      case SEGMENTS:
+        answer = capvet_segments(input, length, &limits, (capvet_extent *)(void *)buffer, head[1], &required, &report);
+        if (answer == CAPVET_OK) written = 16 * required;
         break;
       case VET_SEGMENTS: answer = separate(bytes + 1, head[1], &limits, &report); break;
-      default: answer = capvet_is_canonical(input, length, &limits, &report); break;
+      case CHECK_WORDS: answer = capvet_check_canonical_words(input, length, &limits, &report); break;
+      case DIFFERENCE: answer = capvet_first_difference(input, length, &limits, &report); break;
+      default: answer = capvet_check_canonical(input, length, &limits, &report); break;
     }
     if (written > size) return 4;
     are_kept(out, written, size + item);
-    reported = head[0] == EXCLUSIVE || head[0] == CANONICAL || head[0] == SEGMENT_AT ? required : 0;
+    reported = head[0] == EXCLUSIVE || head[0] == CANONICAL || head[0] == SEGMENTS ? required : 0;
     put(&answer, sizeof answer);
     put(&reported, sizeof reported);
     put(&report, sizeof report);
-    if (head[0] == CANONICAL && answer == CAPVET_OK) put(out, written);
+    if (head[0] != EXCLUSIVE) put(out, written);
     free(bytes);
     free(out);
   }

@@ -6,7 +6,7 @@
  * lines canon FILE: the canonical copies of the messages, each after its table, up to the first message that
  * is refused or has a capability. Each is written into a block that ends with it.
  *
- * Of a message of one segment, the calls have to report the same of its words alone, by CAPVET_NO_TABLE, apart
+ * Of a message of one segment, the calls have to report the same of its words alone, by CAPVET_FORM_WORDS, apart
  * from their length, and capvet_vet_segments of the segments of each message. A canonical copy has to be
  * canonical without a table. Otherwise the status is 5.
  *
@@ -66,7 +66,7 @@ static int unpack(const uint8_t *bytes, size_t length) {
   uint32_t answer;
   if (block == NULL) return 3;
   memcpy(block + 1, bytes, length);
-  answer = capvet_unpack(block + 1, length, NULL, 0, &needed);
+  answer = capvet_unpack_words(block + 1, length, NULL, 0, &needed);
   if (answer == CAPVET_TRUNCATED && needed == 0) {
     free(block);
     fprintf(stderr, "capvet: Truncated at byte %lu\n", (unsigned long)length);
@@ -75,7 +75,7 @@ static int unpack(const uint8_t *bytes, size_t length) {
   if (answer != (needed == 0 ? (uint32_t)CAPVET_OK : (uint32_t)CAPVET_BUFFER_TOO_SMALL)) return 4;
   out = malloc(needed + 1);
   if (out == NULL) return 3;
-  if (capvet_unpack(block + 1, length, out + 1, needed, &written) != CAPVET_OK || written != needed) return 4;
+  if (capvet_unpack_words(block + 1, length, out + 1, needed, &written) != CAPVET_OK || written != needed) return 4;
   if (fwrite(out + 1, 1, written, stdout) != written) return 3;
   free(out);
   free(block);
@@ -83,14 +83,14 @@ static int unpack(const uint8_t *bytes, size_t length) {
 }
 
 /* Writes the canonical copy of a message, by its number in the stream, once its length was asked for. 1 where
- * it has none. */
+ * it has none. `found` is why, or CAPVET_OK. */
 static int copy(unsigned long n, const uint8_t *bytes, size_t length, const capvet_limits *limits,
-                capvet_report *report) {
+                capvet_report *report, uint32_t *found) {
   uint8_t table[8] = {0}, *out;
   size_t needed = 77, written = 77, k;
-  capvet_limits of_words = *limits;
   capvet_report again;
   uint32_t answer = capvet_canonical(bytes, length, limits, NULL, 0, &needed, report);
+  *found = answer == CAPVET_BUFFER_TOO_SMALL ? (uint32_t)CAPVET_OK : answer;
   if (answer != CAPVET_BUFFER_TOO_SMALL) {
     if (needed != 0) return 4;
     if (report->length == 0) return 1;
@@ -107,8 +107,7 @@ static int copy(unsigned long n, const uint8_t *bytes, size_t length, const capv
   if (out == NULL) return 3;
   if (capvet_canonical(bytes, length, limits, out + 1, needed, &written, &again) != CAPVET_OK) return 4;
   if (written != needed || memcmp(report, &again, sizeof again) != 0) return 4;
-  of_words.flags |= CAPVET_NO_TABLE | CAPVET_ALLOW_AMPLIFIED;
-  if (capvet_is_canonical(out + 1, written, &of_words, &again) != CAPVET_OK) return 5;
+  if (capvet_check_canonical_words(out + 1, written, limits, &again) != CAPVET_OK) return 5;
   for (k = 0; k < 4; k++) table[4 + k] = (uint8_t)(written / 8 >> (8 * k));
   if (fwrite(table, 1, 8, stdout) != 8 || fwrite(out + 1, 1, written, stdout) != written) return 3;
   free(out);
@@ -162,11 +161,16 @@ static uint32_t exclusive(const uint8_t *bytes, size_t length, const capvet_limi
 static void separate(const uint8_t *frame, const capvet_limits *limits, uint32_t answer, const capvet_report *report) {
   capvet_segment segments[CAPVET_MAX_SEGMENTS];
   uint8_t *blocks[CAPVET_MAX_SEGMENTS];
+  static capvet_extent extents[CAPVET_MAX_SEGMENTS];
   capvet_report again;
-  size_t at, size, end = 8 * ((size_t)report->segments / 2 + 1);
+  size_t at, size, count, end = 8 * ((size_t)report->segments / 2 + 1);
   uint32_t i;
+  if (capvet_segments(frame, (size_t)report->length, limits, extents, CAPVET_MAX_SEGMENTS, &count, &again) != CAPVET_OK) exit(5);
+  if (count != report->segments) exit(5);
   for (i = 0; i < report->segments; i++) {
-    if (capvet_segment_at(frame, (size_t)report->length, i, &at, &size) != CAPVET_OK || at != end) exit(5);
+    at = (size_t)extents[i].offset;
+    size = (size_t)extents[i].length;
+    if (at != end) exit(5);
     blocks[i] = malloc(size + 1);
     if (blocks[i] == NULL) exit(3);
     memcpy(blocks[i] + 1, frame + at, size);
@@ -174,7 +178,7 @@ static void separate(const uint8_t *frame, const capvet_limits *limits, uint32_t
     segments[i].length = size;
     end = at + size;
   }
-  if (end != report->length || capvet_segment_at(frame, end, i, &at, &size) != CAPVET_NO_SEGMENT) exit(5);
+  if (end != report->length) exit(5);
   memset(&again, 0xa5, sizeof again);
   if (capvet_vet_segments(segments, report->segments, limits, &again) != (capvet_answer)answer) exit(5);
   again.length += 8 * (report->segments / 2 + 1);
@@ -191,10 +195,10 @@ static void without_table(int check, int twice, const uint8_t *frame, const capv
   uint8_t *words = malloc(length + 1);
   uint32_t got;
   if (words == NULL) exit(3);
-  of_words.flags |= CAPVET_NO_TABLE;
+  of_words.form = CAPVET_FORM_WORDS;
   memcpy(words + 1, frame + 8, length);
   memset(&again, 0xa5, sizeof again);
-  got = check ? capvet_is_canonical(words + 1, length, &of_words, &again)
+  got = check ? capvet_check_canonical(words + 1, length, &of_words, &again)
         : twice ? exclusive(words + 1, length, &of_words, &again)
               : capvet_vet(words + 1, length, &of_words, &again);
   again.length += 8;
@@ -232,10 +236,11 @@ int main(int count, char **words) {
     memcpy(block + 1, bytes + at, size);
     memset(&report, 0xa5, sizeof report);
     if (canon) {
-      status = copy(n, block + 1, size, &limits, &report);
-      answer = framed.length == 0 ? answer : CAPVET_OK;
+      uint32_t found;
+      status = copy(n, block + 1, size, &limits, &report, &found);
+      answer = framed.length == 0 ? answer : found;
     } else {
-      answer = check ? capvet_is_canonical(block + 1, size, &limits, &report)
+      answer = check ? capvet_check_canonical(block + 1, size, &limits, &report)
                : twice ? exclusive(block + 1, size, &limits, &report)
                      : capvet_vet(block + 1, size, &limits, &report);
       if (report.segments == 1 && report.length > 8) without_table(check, twice, block + 1, &limits, answer, &report);
@@ -243,7 +248,7 @@ int main(int count, char **words) {
     }
     free(block);
     if (status > 1) return status;
-    if (report.length != framed.length || report.detail != framed.detail || report.input_required != framed.input_required || report.segments != framed.segments)
+    if (report.length != framed.length || report.detail != (answer == CAPVET_WORD_LIMIT ? limits.charge : framed.detail) || report.input_required != framed.input_required || report.segments != framed.segments)
       return 4;
     if (report.length == 0) {
       fault(n, answer, &report, length);

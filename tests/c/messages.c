@@ -32,12 +32,12 @@ static void expect(int holds, const char *what, size_t got) {
 }
 
 /* What the call answers for a buffer of `size` bytes. Its bytes from `end` on have to stay. */
-static uint32_t packed(const uint8_t *bytes, size_t length, unsigned flags, uint8_t *out, size_t size, size_t *required,
+static uint32_t packed(const uint8_t *bytes, size_t length, uint32_t form, uint8_t *out, size_t size, size_t *required,
                        capvet_report *report) {
   capvet_limits limits = CAPVET_LIMITS_INIT;
   uint32_t answer;
   size_t k, end;
-  limits.flags = flags;
+  limits.form = form;
   memset(out, 0xee, size);
   memset(report, 0xa5, sizeof *report);
   *required = 77;
@@ -66,7 +66,7 @@ static void message(const uint8_t *bytes, size_t length) {
   put((unsigned long)size);
   if (fwrite(out + 1, 1, size, stdout) != size) exit(3);
   back = block(length);
-  expect(capvet_unpack(out + 1, size, back + 1, length, &words) == CAPVET_OK && words == length, "it unpacks", words);
+  expect(capvet_unpack_words(out + 1, size, back + 1, length, &words) == CAPVET_OK && words == length, "it unpacks", words);
   expect(memcmp(back + 1, bytes, length) == 0, "it unpacks to the message", length);
   /* more bytes, and one less */
   more = block(length + 3);
@@ -74,13 +74,13 @@ static void message(const uint8_t *bytes, size_t length) {
   memset(more + 1 + length, 0, 3);
   answer = packed(more + 1, length + 3, 0, out + 1, size, &required, &report);
   expect(answer == CAPVET_TRAILING && report.detail == 3 && required == 0, "the answer for trailing bytes", answer);
-  answer = packed(more + 1, length + 3, CAPVET_ALLOW_TRAILING, out + 1, size, &required, &report);
+  answer = packed(more + 1, length + 3, CAPVET_FORM_PREFIX, out + 1, size, &required, &report);
   expect(answer == CAPVET_OK && required == size && report.length == length, "the answer if they may follow", answer);
   answer = packed(bytes, length - 1, 0, out + 1, size, &required, &report);
   expect(answer == CAPVET_TRUNCATED && report.input_required == length && required == 0, "a cut message", answer);
   answer = packed(bytes, length, 8u << 20, out + 1, size, &required, &report);
   expect(answer == CAPVET_BAD_LIMITS && required == 0, "an unknown flag", answer);
-  answer = packed(bytes, length, CAPVET_NO_TABLE, out + 1, size, &required, &report);
+  answer = packed(bytes, length, CAPVET_FORM_WORDS, out + 1, size, &required, &report);
   expect(answer == CAPVET_BAD_LIMITS && required == 0 && report.length == 0, "no table", answer);
   free(more);
   free(back);

@@ -1,5 +1,5 @@
-/* names: writes the number and the name of each answer below 256 that has a name. Then it looks at the macros of
- * capvet.h, at the calls that are beside them, and at the limits that capvet_limits_default sets. */
+/* names: writes the number and the name of each answer below 256 that has a name, after the word "answer". So it does for
+ * each reason of a first difference, after the word "difference". Then it looks at the macros of capvet.h, at the calls that are beside them, and at the limits that capvet_limits_default sets. */
 #define CAPVET_LINK_CHECK
 #include <capvet.h>
 
@@ -20,8 +20,13 @@ int main(void) {
   capvet_limits limits;
   unsigned answer;
   for (answer = 0; answer < 256; answer++)
-    if (strcmp(capvet_answer_name(answer), "Unknown") != 0) printf("%u %s\n", answer, capvet_answer_name(answer));
-  expect(strcmp(capvet_answer_name(0x7fffffff), "Unknown") == 0, "an answer that never comes");
+    if (strcmp(capvet_answer_name((capvet_answer)answer), "Unknown") != 0)
+      printf("answer %u %s\n", answer, capvet_answer_name((capvet_answer)answer));
+  for (answer = 0; answer < 256; answer++)
+    if (strcmp(capvet_difference_name(answer), "Unknown") != 0)
+      printf("difference %u %s\n", answer, capvet_difference_name(answer));
+  expect(strcmp(capvet_difference_name(UINT64_MAX), "Unknown") == 0, "a difference that never comes");
+  expect(strcmp(capvet_answer_name(CAPVET_ANSWER_32_BITS), "Unknown") == 0, "an answer that never comes");
   expect(sizeof(capvet_answer) == 4, "the size of an answer");
   memset(&limits, 0xa5, sizeof limits);
   capvet_limits_default(&limits);
@@ -29,7 +34,7 @@ int main(void) {
   expect(usual.message_words == 8388608 && usual.charge == 8388608 && usual.depth == 64 && usual.flags == 0, "their values");
   expect(capvet_version() == CAPVET_VERSION, "the version");
   expect(capvet_cpu_supported() == 1, "a processor that runs the calls");
-#if CAPVET_VERSION < 65792
+#if CAPVET_VERSION < 131072
   expect(0, "the version in #if");
 #endif
   expect(capvet_frame_bound(0) == 2056 && capvet_frame_bound(usual.message_words) == CAPVET_FRAME_BOUND(usual.message_words) &&

@@ -1,4 +1,4 @@
-/* packing: what capvet_pack answers for known words, with each length of the output buffer.
+/* packing: what capvet_pack_words answers for known words, with each length of the output buffer.
  *
  * packing FILE: packs each list of bytes of a file. The four bytes before a list are its length, the lowest byte
  * first. For each list it writes the length of its packed text, in the same way, and then that text. For a list
@@ -42,7 +42,7 @@ static uint32_t packed(size_t length, size_t capacity, size_t *written, uint8_t 
   memcpy(from + 1, WORDS, length);
   memset(out, 0xee, capacity + 1);
   *written = 77;
-  answer = capvet_pack(from + 1, length, out + 1, capacity, written);
+  answer = capvet_pack_words(from + 1, length, out + 1, capacity, written);
   expect(memcmp(from + 1, WORDS, length) == 0, "the words stay", length);
   memcpy(got, out + 1, capacity);
   free(out);
@@ -88,14 +88,14 @@ static void put(unsigned long number) {
 static void text(const uint8_t *bytes, size_t length) {
   uint8_t *out;
   size_t needed = 77, written = 77;
-  uint32_t answer = capvet_pack(bytes, length, NULL, 0, &needed);
+  uint32_t answer = capvet_pack_words(bytes, length, NULL, 0, &needed);
   if (answer == CAPVET_TRUNCATED && needed == 0) {
     put(CUT);
     return;
   }
   if (answer != (needed == 0 ? (uint32_t)CAPVET_OK : (uint32_t)CAPVET_BUFFER_TOO_SMALL) || needed > length / 8 * 10) exit(4);
   out = block(needed);
-  if (capvet_pack(bytes, length, out + 1, needed, &written) != CAPVET_OK || written != needed) exit(4);
+  if (capvet_pack_words(bytes, length, out + 1, needed, &written) != CAPVET_OK || written != needed) exit(4);
   put((unsigned long)needed);
   if (fwrite(out + 1, 1, needed, stdout) != needed) exit(3);
   free(out);

@@ -58,7 +58,7 @@ static void leads_on(size_t count) {
   capvet_node node;
   capvet_report report;
   size_t at, end = 0;
-  if (count == 0 || (limits.flags & CAPVET_NO_TABLE) != 0) return;
+  if (count == 0 || limits.form == CAPVET_FORM_WORDS) return;
   own.charge = CAPVET_MAX_CHARGE;
   own.flags |= CAPVET_ALLOW_NONSTRICT | CAPVET_ALLOW_AMPLIFIED;
   text[0] = '/';

@@ -18,14 +18,14 @@
 enum { STACK = 1 << 16, PAINT = 0xa5, OUT = 1 << 20, NODES = 8 };
 
 enum {
-  FRAME, SEGMENT_AT, VET, EXCLUSIVE, SEGMENTS, CANONICAL, IS_CANONICAL, GET, RANGE, POINTER_PATH, EARLIER, EXPLAIN, PACK,
-  UNPACK, PACK_MESSAGE, UNPACK_MESSAGE, BOUNDS, OTHER, CALLS
+  FRAME, EXTENTS, VET, EXCLUSIVE, SEGMENTS, CANONICAL, CHECK, CHECK_WORDS, DIFFERENCE, GET, RANGE, POINTER_PATH, EARLIER, EXPLAIN,
+  OVERLAP, PACK, UNPACK, PACK_MESSAGE, UNPACK_MESSAGE, READER_WORDS, READER_NESTING, BOUNDS, OTHER, CALLS
 };
 static const char *const NAMES[CALLS] = {
-    "capvet_frame", "capvet_segment_at", "capvet_vet", "capvet_vet_exclusive", "capvet_vet_segments", "capvet_canonical",
-    "capvet_is_canonical", "capvet_get", "capvet_get_range", "capvet_pointer_path", "capvet_earlier_pointer",
-    "capvet_explain", "capvet_pack", "capvet_unpack", "capvet_pack_message", "capvet_unpack_message", "capvet_..._bound",
-    "capvet_version"};
+    "capvet_frame", "capvet_segments", "capvet_vet", "capvet_vet_exclusive", "capvet_vet_segments", "capvet_canonical",
+    "capvet_check_canonical", "capvet_check_canonical_words", "capvet_first_difference", "capvet_get", "capvet_get_range",
+    "capvet_pointer_path", "capvet_earlier_pointer", "capvet_explain", "capvet_explain_overlap", "capvet_pack_words", "capvet_unpack_words",
+    "capvet_pack_message", "capvet_unpack_message", "capvet_reader_words", "capvet_reader_nesting", "capvet_..._bound", "capvet_version"};
 
 /* The input of the calls, and what they fill in. */
 static uint8_t bytes[OUT], out[OUT], packed[OUT];
@@ -34,6 +34,7 @@ static size_t length, path_length, packed_length;
 static uint64_t marks[OUT / 64];
 static capvet_limits limits;
 static capvet_segment segments[CAPVET_MAX_SEGMENTS + 1];
+static capvet_extent extents[CAPVET_MAX_SEGMENTS];
 static size_t segment_count, step_count;
 static capvet_step steps[1 << 10];
 static capvet_node nodes[NODES];
@@ -41,7 +42,7 @@ static capvet_step found_steps[OUT / sizeof(capvet_step)];
 static char text[OUT / 64];
 /* That of the pointer that capvet_vet names, or of the last one. */
 static uint64_t number;
-static capvet_report report;
+static capvet_report report, place;
 static capvet_unpacking state;
 static size_t required, other;
 /* The size of output buffers: all of them, or nothing. */
@@ -57,14 +58,16 @@ static __attribute__((noinline)) void make_call(void) {
   entered = (uintptr_t)__builtin_frame_address(0);
   switch (called) {
     case FRAME: answer = capvet_frame(bytes, length, &limits, &report); break;
-    case SEGMENT_AT: answer = capvet_segment_at(bytes, length, 1, &required, &other); break;
+    case EXTENTS: answer = capvet_segments(bytes, length, &limits, extents, CAPVET_MAX_SEGMENTS, &required, &report); break;
     case VET: answer = capvet_vet(bytes, length, &limits, &report); break;
     case EXCLUSIVE:
       answer = capvet_vet_exclusive(bytes, length, &limits, marks, capacity / 64, &required, &report);
       break;
     case SEGMENTS: answer = capvet_vet_segments(segments, segment_count, &limits, &report); break;
     case CANONICAL: answer = capvet_canonical(bytes, length, &limits, out, capacity, &required, &report); break;
-    case IS_CANONICAL: answer = capvet_is_canonical(bytes, length, &limits, &report); break;
+    case CHECK: answer = capvet_check_canonical(bytes, length, &limits, &report); break;
+    case CHECK_WORDS: answer = capvet_check_canonical_words(bytes, length, &limits, &report); break;
+    case DIFFERENCE: answer = capvet_first_difference(bytes, length, &limits, &report); break;
     case GET: answer = capvet_get(bytes, length, &limits, path, path_length, nodes, &report); break;
     case RANGE:
       answer = capvet_get_range(bytes, length, &limits, steps, step_count, step_count ? step_count - 1 : 0, nodes, NODES,
@@ -75,17 +78,23 @@ static __attribute__((noinline)) void make_call(void) {
       break;
     case EARLIER: answer = capvet_earlier_pointer(bytes, length, &limits, number, &report); break;
     case EXPLAIN: answer = capvet_explain(bytes, length, &limits, text, capacity / 64, &required, &report); break;
-    case PACK: answer = capvet_pack(bytes, length, packed, capacity, &required); break;
-    case UNPACK: answer = capvet_unpack(packed, packed_length, out, capacity, &required); break;
+    case OVERLAP:
+      answer = capvet_explain_overlap(bytes, length, &limits, place.segment, place.word, number, text, capacity / 64, &required,
+                                      &report);
+      break;
+    case PACK: answer = capvet_pack_words(bytes, length, packed, capacity, &required); break;
+    case UNPACK: answer = capvet_unpack_words(packed, packed_length, out, capacity, &required); break;
     case PACK_MESSAGE: answer = capvet_pack_message(bytes, length, &limits, packed, capacity, &required, &report); break;
     case UNPACK_MESSAGE:
       answer = capvet_unpack_message(packed, packed_length, &limits, out, capacity, &state, &other, &required, &report);
       break;
+    case READER_WORDS: required = (size_t)capvet_reader_words(&report, 2); break;
+    case READER_NESTING: required = capvet_reader_nesting(&report); break;
     case BOUNDS:
       required = capvet_marks_bound(length) + capvet_canonical_bound(length) + capvet_pack_bound(length) +
                  capvet_frame_bound(length);
       break;
-    default: answer = capvet_version(); capvet_abi_1(); capvet_limits_default(&limits);
+    default: answer = capvet_version(); capvet_abi_2(); capvet_limits_default(&limits);
   }
 }
 
@@ -113,12 +122,13 @@ static void read_whole(FILE *file, void *to, size_t size) {
 
 /* The segments of the frame, or the input as one of them, and the steps of the path. */
 static void find_parts(void) {
-  size_t size, offset, at;
+  const capvet_limits most = {CAPVET_MAX_MESSAGE_WORDS, 0, 0, 0, 0, 0, {0, 0, 0, 0, 0, 0}};
+  size_t at;
   segment_count = step_count = 0;
-  while (segment_count < CAPVET_MAX_SEGMENTS &&
-         capvet_segment_at(bytes, length, (uint32_t)segment_count, &offset, &size) == CAPVET_OK) {
-    segments[segment_count].bytes = bytes + offset;
-    segments[segment_count++].length = size;
+  if (capvet_segments(bytes, length, &most, extents, CAPVET_MAX_SEGMENTS, &segment_count, &report) != CAPVET_OK) segment_count = 0;
+  for (at = 0; at < segment_count; at++) {
+    segments[at].bytes = bytes + extents[at].offset;
+    segments[at].length = (size_t)extents[at].length;
   }
   if (segment_count == 0) {
     segments[0].bytes = bytes;
@@ -142,10 +152,13 @@ static int take_message(FILE *file) {
   read_whole(file, bytes, length);
   capvet_limits_default(&limits);
   limits.depth = CAPVET_MAX_DEPTH;
-  limits.flags = head[0];
+  /* (as tests/model.py has them) */
+  limits.form = (head[0] & 1) | (head[0] >> 2 & 2);
+  limits.flags = head[0] >> 1 & 3;
   find_parts();
   answer = capvet_vet(bytes, length, &limits, &report);
   number = report.pointers;
+  place = report;
   return 1;
 }
 
@@ -178,7 +191,7 @@ int main(int count, char **words) {
       if (call == UNPACK) {
         const uint32_t flags = limits.flags;
         limits.flags = 0;
-        if (capvet_pack(bytes, length, packed, OUT, &packed_length) != CAPVET_OK) packed_length = length < 64 ? length : 64;
+        if (capvet_pack_words(bytes, length, packed, OUT, &packed_length) != CAPVET_OK) packed_length = length < 64 ? length : 64;
         limits.flags = flags;
       }
       for (size = OUT; ; size = 0) {

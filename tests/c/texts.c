@@ -26,7 +26,7 @@ static void put(unsigned long number) {
 /* One text, whose block is given. */
 static void text(const uint8_t *bytes, size_t length) {
   size_t needed = 77, written = 77;
-  uint32_t answer = capvet_unpack(bytes, length, NULL, 0, &needed);
+  uint32_t answer = capvet_unpack_words(bytes, length, NULL, 0, &needed);
   uint8_t *out;
   if (answer == CAPVET_TRUNCATED && needed == 0) {
     put(CUT);
@@ -34,7 +34,7 @@ static void text(const uint8_t *bytes, size_t length) {
   }
   if (answer != (needed == 0 ? (uint32_t)CAPVET_OK : (uint32_t)CAPVET_BUFFER_TOO_SMALL)) exit(4);
   out = block(needed);
-  if (capvet_unpack(bytes, length, out + 1, needed, &written) != CAPVET_OK || written != needed) exit(4);
+  if (capvet_unpack_words(bytes, length, out + 1, needed, &written) != CAPVET_OK || written != needed) exit(4);
   put((unsigned long)needed);
   if (fwrite(out + 1, 1, needed, stdout) != needed) exit(3);
   free(out);

@@ -1,6 +1,8 @@
 // Load plays clients and a server at both ends of a proxy, for tests/guard.py.
 //
 //	load storm PROXY SERVER CONNECTIONS MESSAGES FILE
+//	load exact PROXY SERVER CONNECTIONS MESSAGES SEED dry|real
+//	load soak PROXY SERVER SECONDS CALLS GOOD_CLIENTS HOSTILE_CLIENTS SLOW_CLIENTS
 //	load rate SERVER DIRECTION MESSAGE_BYTES TOTAL_BYTES PROXY..
 //	load latency SERVER CALLS PROXY..
 //
@@ -23,6 +25,10 @@ func main() {
 	switch os.Args[1] {
 	case "storm":
 		fmt.Println(storm(words[0], words[1], number(words[2]), number(words[3]), words[4]))
+	case "exact":
+		fmt.Println(exact(words[0], words[1], number(words[2]), number(words[3]), int64(number(words[4])), words[5] == "dry"))
+	case "soak":
+		fmt.Println(soak(words[0], words[1], number(words[2]), number(words[3]), number(words[4]), number(words[5]), number(words[6])))
 	case "rate":
 		for _, rate := range rates(words[0], words[1] == "replies", number(words[2]), number(words[3]), words[4:]) {
 			fmt.Printf("%.1f ", rate)

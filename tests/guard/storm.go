@@ -11,8 +11,8 @@ import (
 	"time"
 )
 
-// patience is how long a connection may take.
-const patience = 5 * time.Minute
+// patience is how long a connection may take. Only a hang takes longer.
+const patience = 20 * time.Minute
 
 // plan is what a connection sends, and how much of it has to arrive.
 type plan struct {
@@ -97,7 +97,7 @@ func dial(proxy string) net.Conn {
 			must(conn.SetDeadline(time.Now().Add(patience)))
 			return conn
 		}
-		if tries == 100 {
+		if tries == 1200 {
 			must(err)
 		}
 		time.Sleep(100 * time.Millisecond)

@@ -27,14 +27,20 @@ function joined(parts) {
 
 const hex = (bytes) => Array.from(bytes, (byte) => byte.toString(16).padStart(2, "0")).join("");
 
-function verdict({ report, refusal }) {
-  if (refusal === null) return `accepted charge ${report.charge} depth ${report.depth} pointers ${report.pointers} caps ${report.capabilities}`;
-  return `refused ${refusal.reason} at ${refusal.segment}:${refusal.word} pointers ${refusal.pointers}`;
+/** The words of the program about a message or a refusal. */
+function verdict(it) {
+  const { report } = it;
+  if (report) return `accepted charge ${report.charge} depth ${report.depth} pointers ${report.pointers} caps ${report.capabilities}`;
+  const { segment, word } = it.position ?? { segment: 0, word: 0 };
+  return `refused ${it.reason} at ${segment}:${word} pointers ${it.pointer ?? 0}`;
 }
+
+/** The bytes of a message that is accepted or refused. */
+const bytesOf = (it) => it.data ?? it.unvetted;
 
 /** The line about bytes that are no message. */
 function fault(error, index, length) {
-  const said = error.reason === "Truncated" ? `Truncated at byte ${length}` : `${error.reason} ${error.detail}`;
+  const said = error.reason === "Truncated" ? `Truncated at byte ${length}` : `${error.reason} ${error.segments ?? error.words}`;
   return `capvet: message ${index}: ${said}\n`;
 }
 
@@ -85,8 +91,8 @@ async function overAll(capvet, asked, lines) {
   return parts;
 }
 
-function* segmentLines(capvet, { number, raw }) {
-  const { length, segments } = capvet.frame(raw);
+function* segmentLines(capvet, message) {
+  const { number } = message, raw = bytesOf(message), { length, segments } = capvet.frame(raw);
   const words = segments.map((it) => it.length / 8), [first] = segments;
   if (length !== raw.length) yield `the frame has ${length} bytes\n`;
   yield `message ${number}: segments ${words.length} words ${words.reduce((sum, it) => sum + it, 0)}\n`;
@@ -96,17 +102,17 @@ function* segmentLines(capvet, { number, raw }) {
 
 /** A message by calls about one message: they have to agree with what the stream said. */
 function* singleLines(capvet, { options }, message) {
-  const { exclusive = false, packed, ...limits } = options, { raw } = message, place = { number: message.number };
-  const calls = [exclusive ? capvet.vetExclusive : capvet.vet];
-  if (!exclusive) calls.push((data, given) => capvet.vetSegments(capvet.frame(data).segments.map((it) => data.subarray(it.offset, it.offset + it.length)), given));
-  for (const call of calls) {
+  const limits = limitsOf(options), raw = bytesOf(message);
+  const parts = () => capvet.frame(raw).segments.map((it) => raw.subarray(it.offset, it.offset + it.length));
+  for (const call of [() => capvet.vet(raw, limits), () => capvet.vetPrefix(raw, limits).message, () => capvet.vetSegments(parts(), limits)]) {
+    let found;
     try {
-      Object.assign(place, { report: call(raw, limits), refusal: null });
+      found = call();
     } catch (error) {
       if (!(error instanceof capvet.Refusal)) throw error;
-      Object.assign(place, { report: null, refusal: error });
+      found = error;
     }
-    if (verdict(place) !== verdict(message)) yield `by itself: ${verdict(place)}\n`;
+    if (verdict(found) !== verdict(message)) yield `by itself: ${verdict(found)}\n`;
   }
 }
 
@@ -127,65 +133,63 @@ function* ownWords(node, indent) {
   for (let at = 0; at < words.length; at += 8) yield `${indent}${node.kind === "struct" ? "d" : "w"}${at / 8} ${hex(words.subarray(at, at + 8))}\n`;
 }
 
-/** The lines of a node and of all below it. Its children are read by `nodes`, and each of them by `node` again. */
-function* tree(capvet, { raw, limits }, node, path, label, indent) {
+/** The lines of a node and of all below it. Its children are read by `getRange`, and each of them by `get` and `peek` again. */
+function* tree(capvet, message, limits, node, path, label, indent) {
   yield `${indent}${label} ${headOf(node)}\n`;
   yield* ownWords(node, `${indent}  `);
   const kind = node.kind === "struct" ? "p" : "i", above = path === "/" ? "" : path;
   const isEmpty = node.kind === "structs" && node.dataWords + node.pointers === 0;
   if (!["struct", "pointers", "structs"].includes(node.kind) || isEmpty) return;
   let index = 0;
-  for (const child of capvet.nodes(raw, `${above}/${kind}*`, limits)) {
-    const below = `${above}/${kind}${index}`, again = capvet.node(raw, below, limits);
-    if (again === null || again.offset !== child.offset || headOf(again) !== headOf(child)) yield `node and nodes differ at ${below}\n`;
-    yield* tree(capvet, { raw, limits }, child, below, `${kind}${index}`, `${indent}  `);
+  for (const child of message.getRange(`${above}/${kind}*`)) {
+    const below = `${above}/${kind}${index}`;
+    for (const again of [message.get(below), capvet.peek(message.data, below, limits)]) {
+      if (again === null || again.offset !== child.offset || headOf(again) !== headOf(child)) yield `the nodes differ at ${below}\n`;
+    }
+    yield* tree(capvet, message, limits, child, below, `${kind}${index}`, `${indent}  `);
     index++;
   }
 }
 
-function limitsOf({ exclusive, packed, ...limits }) {
+function limitsOf({ packed, ...limits }) {
   return limits;
 }
 
 function* dumpLines(capvet, { options }, message) {
   yield `message ${message.number}: ${verdict(message)}\n`;
-  if (message.refusal !== null) return;
-  const it = { raw: message.raw, limits: limitsOf(options) };
-  yield* tree(capvet, it, capvet.node(it.raw, "/", it.limits), "/", "root", "");
+  if (message instanceof capvet.Message) yield* tree(capvet, message, limitsOf(options), message.get("/"), "/", "root", "");
 }
 
-function* getLines(capvet, { options, path }, message) {
+function* getLines(capvet, { path }, message) {
   const about = `message ${message.number}:`;
-  if (message.refusal !== null) {
+  if (message instanceof capvet.Refusal) {
     yield `${about} ${verdict(message)}\n`;
     return;
   }
-  const node = capvet.node(message.raw, path, limitsOf(options));
+  const node = message.get(path);
   yield `${about} ${node === null ? "none" : "found"}\n`;
   if (node === null) return;
   yield `node ${headOf(node)}\n`;
   yield* ownWords(node, "  ");
 }
 
-function* checkLines(capvet, { options }, { number, raw }) {
-  try {
-    yield `message ${number}: ${capvet.isCanonical(raw, limitsOf(options)) ? "" : "not "}canonical\n`;
-  } catch (refusal) {
-    if (!(refusal instanceof capvet.Refusal)) throw refusal;
-    yield `message ${number}: ${verdict({ refusal })}\n`;
-  }
+function* checkLines(capvet, message) {
+  const said = message instanceof capvet.Refusal ? verdict(message) : `${message.isCanonical() ? "" : "not "}canonical`;
+  yield `message ${message.number}: ${said}\n`;
 }
 
-/** The canonical copy with a table, or the error, which has to be that of the message. */
+/** The canonical copy with a table, if the message is accepted and has no capability. */
 function canonParts(capvet, { options }, message) {
+  if (message instanceof capvet.Refusal) return [];
   try {
-    const words = capvet.canonical(message.raw, limitsOf(options)), table = new DataView(new ArrayBuffer(8));
+    const words = message.canonical(), table = new DataView(new ArrayBuffer(8));
     table.setUint32(4, words.length / 8, true);
-    const out = new Uint8Array(words.length), count = capvet.canonicalInto(message.raw, out, limitsOf(options));
-    return [new Uint8Array(table.buffer), count === words.length ? out : `canonicalInto gives ${count} bytes\n`];
+    const out = new Uint8Array(words.length), count = message.canonicalInto(out);
+    const isForm = capvet.isCanonicalWords(words, limitsOf(options)) && capvet.vetWords(words, limitsOf(options)).isCanonical();
+    const isCopy = count === words.length && isForm;
+    return [new Uint8Array(table.buffer), isCopy ? out : `message ${message.number}: a wrong copy\n`];
   } catch (error) {
-    const isSame = error instanceof capvet.CapabilityError ? error.report.capabilities === message.report.capabilities
-      : error instanceof capvet.Refusal && verdict({ refusal: error }) === verdict(message);
+    const isSame = error instanceof capvet.CapabilityError && error.report === message.report && message.report.capabilities > 0;
     return isSame ? [] : [`message ${message.number}: ${error}\n`];
   }
 }
@@ -198,7 +202,7 @@ function unpacked(capvet, stream) {
     const size = new Uint8Array(4);
     let words = new Uint8Array(0);
     try {
-      words = capvet.unpack(stream.subarray(at + 4, at + 4 + length));
+      words = capvet.unpackWords(stream.subarray(at + 4, at + 4 + length));
       new DataView(size.buffer).setUint32(0, words.length, true);
     } catch (error) {
       if (error.reason !== "Truncated") throw error;
@@ -216,13 +220,13 @@ const COMMANDS = {
   segments: each((capvet, asked, message) => segmentLines(capvet, message)),
   dump: each(dumpLines),
   get: each(getLines),
-  check: each(checkLines),
-  explain: each((capvet, { options }, { number, raw, ...message }) => (
-    [`message ${number}: ${verdict(message)}\n`, capvet.explain(raw, limitsOf(options)) ?? ""])),
+  check: each((capvet, asked, message) => checkLines(capvet, message)),
+  explain: each((capvet, asked, message) => (
+    [`message ${message.number}: ${verdict(message)}\n`, message instanceof capvet.Refusal ? message.explain() : ""])),
   canon: each(canonParts),
   // (the program writes accepted messages here, and the lines of the others to standard error)
-  filter: each((capvet, asked, { refusal, raw }) => (refusal === null ? [capvet.packMessage(raw, limitsOf(asked.options))] : [])),
-  pack: (capvet, { stream }) => [capvet.pack(stream)],
-  unpack: (capvet, { stream }) => [capvet.unpack(stream)],
+  filter: each((capvet, asked, message) => (message instanceof capvet.Message ? [capvet.packMessage(message.data)] : [])),
+  pack: (capvet, { stream }) => [capvet.packWords(stream)],
+  unpack: (capvet, { stream }) => [capvet.unpackWords(stream)],
   texts: (capvet, { stream }) => unpacked(capvet, stream),
 };

@@ -6,7 +6,7 @@ import { setTimeout } from "node:timers/promises";
 import { pathToFileURL } from "node:url";
 
 const [name, form] = process.argv.slice(2), GIGABYTE = 2 ** 30, LARGE = 2 ** 28;
-const { pack, readMessages, vet } = await import(pathToFileURL(name).href);
+const { packWords, readMessages, vet } = await import(pathToFileURL(name).href);
 const memory = () => process.memoryUsage().rss;
 
 /** A message with a list of bytes, which take so many bytes in all. */
@@ -26,7 +26,7 @@ async function* chunks(bytes, times) {
 }
 
 async function stream() {
-  const one = message(2 ** 20), bytes = form === "packed" ? pack(one) : one;
+  const one = message(2 ** 20), bytes = form === "packed" ? packWords(one) : one;
   let length = 0, most = 0;
   for await (const it of readMessages(chunks(bytes, GIGABYTE / one.length), { packed: form === "packed" })) {
     length += it.data.length;
@@ -36,9 +36,9 @@ async function stream() {
 }
 
 async function back() {
-  const large = message(LARGE), before = memory(), { length } = vet(large, { messageWords: LARGE / 8, charge: LARGE / 8 });
+  const large = message(LARGE), before = memory(), { length } = vet(large, { messageWords: LARGE / 8, charge: LARGE / 8 }).data;
   const during = memory();
-  for (let time = 0; time < 100 && memory() > before + LARGE / 8; time++) {
+  for (let time = 0; time < 3_600 && memory() > before + LARGE / 8; time++) {
     await setTimeout(50);
     gc();
   }

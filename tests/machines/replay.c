@@ -37,13 +37,13 @@ static uint32_t answer(uint32_t call, const uint64_t *a) {
     case 3: return capvet_vet_exclusive(P(0), N(1), P(2), P(3), N(4), P(5), P(6));
     case 4: return capvet_vet_segments(P(0), N(1), P(2), P(3));
     case 5: return capvet_frame(P(0), N(1), P(2), P(3));
-    case 6: return capvet_segment_at(P(0), N(1), (uint32_t)a[2], P(3), P(4));
+    case 6: return capvet_segments(P(0), N(1), P(2), P(3), N(4), P(5), P(6));
     case 7: return capvet_canonical(P(0), N(1), P(2), P(3), N(4), P(5), P(6));
-    case 8: return capvet_is_canonical(P(0), N(1), P(2), P(3));
+    case 8: return capvet_check_canonical(P(0), N(1), P(2), P(3));
     case 9: return capvet_get(P(0), N(1), P(2), P(3), N(4), P(5), P(6));
     case 10: return capvet_get_range(P(0), N(1), P(2), P(3), N(4), N(5), P(6), N(7), P(8), P(9));
-    case 11: return capvet_pack(P(0), N(1), P(2), N(3), P(4));
-    case 12: return capvet_unpack(P(0), N(1), P(2), N(3), P(4));
+    case 11: return capvet_pack_words(P(0), N(1), P(2), N(3), P(4));
+    case 12: return capvet_unpack_words(P(0), N(1), P(2), N(3), P(4));
     case 13: return capvet_pack_message(P(0), N(1), P(2), P(3), N(4), P(5), P(6));
     case 14: return capvet_unpack_message(P(0), N(1), P(2), P(3), N(4), P(5), P(6), P(7), P(8));
     case 15: return capvet_pointer_path(P(0), N(1), P(2), a[3], P(4), N(5), P(6), P(7));
@@ -53,6 +53,9 @@ static uint32_t answer(uint32_t call, const uint64_t *a) {
     case 19: return least(capvet_canonical_bound(N(0)));
     case 20: return least(capvet_pack_bound(N(0)));
     case 21: return capvet_earlier_pointer(P(0), N(1), P(2), a[3], P(4));
+    case 22: return capvet_check_canonical_words(P(0), N(1), P(2), P(3));
+    case 23: return capvet_explain_overlap(P(0), N(1), P(2), (uint32_t)a[3], (uint32_t)a[4], a[5], P(6), N(7), P(8), P(9));
+    case 24: return capvet_first_difference(P(0), N(1), P(2), P(3));
   }
   exit(2);
 }

@@ -6,11 +6,13 @@ const FILLED = 0xee, PAGE = 65536;
 // 32 bits. The module takes 32 bits for each: a number above them is passed as the greatest one, which no message reaches either.
 const CALLS = [
   ["capvet_version", ""], ["capvet_limits_default", "p"], ["capvet_vet", "pspp"], ["capvet_vet_exclusive", "psppspp"],
-  ["capvet_vet_segments", "pspp"], ["capvet_frame", "pspp"], ["capvet_segment_at", "psnpp"], ["capvet_canonical", "psppspp"],
-  ["capvet_is_canonical", "pspp"], ["capvet_get", "psppspp"], ["capvet_get_range", "psppsspspp"], ["capvet_pack", "pspsp"],
-  ["capvet_unpack", "pspsp"], ["capvet_pack_message", "psppspp"], ["capvet_unpack_message", "psppspppp"],
+  ["capvet_vet_segments", "pspp"], ["capvet_frame", "pspp"], ["capvet_segments", "psppspp"], ["capvet_canonical", "psppspp"],
+  ["capvet_check_canonical", "pspp"], ["capvet_get", "psppspp"], ["capvet_get_range", "psppsspspp"], ["capvet_pack_words", "pspsp"],
+  ["capvet_unpack_words", "pspsp"], ["capvet_pack_message", "psppspp"], ["capvet_unpack_message", "psppspppp"],
   ["capvet_pointer_path", "pspspspp"], ["capvet_explain", "psppspp"], ["capvet_marks_bound", "s"], ["capvet_frame_bound", "s"],
   ["capvet_canonical_bound", "s"], ["capvet_pack_bound", "s"], ["capvet_earlier_pointer", "pspsp"],
+  ["capvet_check_canonical_words", "pspp"], ["capvet_explain_overlap", "pspnnspspp"],
+  ["capvet_first_difference", "pspp"],
 ];
 const NOTHING = 0xffffffffffffffffn, MOST = 0xffffffffn;
 

@@ -1,4 +1,4 @@
-// Serves the calculator of examples/cpp to connections, in each way to put capvet before libcapnp's RPC.
+// Serves the calculator of examples/cpp to connections, in each way to put capvet in front of libcapnp's RPC.
 #ifndef HOST_H
 #define HOST_H
 
@@ -21,17 +21,18 @@ const Way VETTED[] = {Way::WITH, Way::AROUND, Way::BYTES, Way::SERVED};
 // A connection to a network of its own.
 struct Connection {
   Connection(kj::Own<kj::AsyncIoStream> accepted, capnp::Capability::Client service, Way way,
-             const capvet::Options &options, capvet::OnRefused onRefused)
+             kj::Timer &timer, const capvet::StreamOptions &options, capvet::OnEnded onEnded)
       : stream(kj::mv(accepted)),
-        messages(streamOf(way, options, kj::mv(onRefused))),
+        messages(streamOf(way, timer, options, kj::mv(onEnded))),
         network(*messages, capnp::rpc::twoparty::Side::SERVER),
         rpc(capnp::makeRpcServer(network, kj::mv(service))) {}
 
-  kj::Own<capnp::MessageStream> streamOf(Way way, const capvet::Options &options, capvet::OnRefused onRefused) {
-    if (way == Way::WITH) return kj::heap<capvet::VettingStream>(*stream, options, kj::mv(onRefused));
+  kj::Own<capnp::MessageStream> streamOf(Way way, kj::Timer &timer, const capvet::StreamOptions &options,
+                                         capvet::OnEnded onEnded) {
+    if (way == Way::WITH) return kj::heap<capvet::VettingStream>(*stream, timer, options, kj::mv(onEnded));
     auto plain = kj::heap<capnp::AsyncIoMessageStream>(*stream);
     if (way == Way::WITHOUT) return plain;
-    auto around = kj::heap<capvet::VettingStream>(*plain, options, kj::mv(onRefused));
+    auto around = kj::heap<capvet::VettingStream>(*plain, options, kj::mv(onEnded));
     return around.attach(kj::mv(plain));
   }
 
@@ -41,27 +42,24 @@ struct Connection {
   capnp::RpcSystem<capnp::rpc::twoparty::VatId> rpc;
 };
 
-// Serves connections, and passes each refusal on.
+// Serves connections, and passes each end on.
 class Host final : private kj::TaskSet::ErrorHandler {
  public:
-  using Reported = kj::Function<void(const capvet::Refusal &)>;
-
-  Host(kj::Timer &timer, Reported onRefused, const capvet::ServerOptions &options = {})
+  Host(kj::Timer &timer, capvet::OnEnded onEnded, const capvet::ServerOptions &options = {})
       : timer(timer),
-        reported(kj::mv(onRefused)),
+        reported(kj::mv(onEnded)),
         options(options),
         server(service),
-        served(service, timer, options, [this](const capvet::Refusal &refusal) { reported(refusal); }),
+        served(service, timer, options, [this](const capvet::Ended &ended) { reported(ended); }),
         tasks(*this) {}
 
   void serve(kj::Own<kj::AsyncIoStream> stream, Way way) {
-    // (moved, since kj::Function keeps what has a name by reference)
-    auto onRefused = [this](const capvet::Refusal &refusal) { reported(refusal); };
+    auto onEnded = [this](const capvet::Ended &ended) { reported(ended); };
     if (way == Way::SERVED) return served.serve(kj::mv(stream));
     if (way == Way::BYTES) {
-      return server.accept(kj::heap<capvet::VettingIoStream>(kj::mv(stream), options.messages, kj::mv(onRefused)));
+      return server.accept(kj::heap<capvet::VettingIoStream>(kj::mv(stream), timer, options, onEnded));
     }
-    auto connection = kj::heap<Connection>(kj::mv(stream), service, way, options.messages, kj::mv(onRefused));
+    auto connection = kj::heap<Connection>(kj::mv(stream), service, way, timer, options, onEnded);
     auto ended = connection->network.onDisconnect();
     tasks.add(ended.attach(kj::mv(connection)));
   }
@@ -82,7 +80,7 @@ class Host final : private kj::TaskSet::ErrorHandler {
   void taskFailed(kj::Exception &&exception) override { printf("task: %s\n", exception.getDescription().cStr()); }
 
   kj::Timer &timer;
-  Reported reported;
+  capvet::OnEnded reported;
   capvet::ServerOptions options;
   capnp::Capability::Client service = kj::heap<CalculatorServer>();
   capnp::TwoPartyServer server;

@@ -33,16 +33,19 @@
 #include <vector>
 
 #include "host.h"
+#include "patient.h"
 #include "refusal.h"
 
 namespace {
 
 using capnp::rpc::twoparty::Side;
 using capnp::rpc::twoparty::VatId;
+using capvet::detail::valueOf;
 
-// What libcapnp's getters throw of messages that aren't of the schema. They are no matter of pointers and limits.
+// What libcapnp's getters throw of messages that aren't of the schema. They are no matter of pointers and limits. (1.1.0 and
+// 1.5.0 lack a blank in the first one)
 const char *const OF_SCHEMAS[] = {
-    "where struct pointer was expected", "where list pointer was expected", "where text was expected",
+    "where struct pointer was expected", "where struct pointerwas expected", "where list pointer was expected", "where text was expected",
     "where data was expected", "not NUL-terminated", "where capability pointer was expected", "non-data",
     "Expected a primitive list", "incompatible", "Found struct list", "Found bit list", "invalid capability pointer"};
 
@@ -79,7 +82,7 @@ class Server final {
       : way(way),
         listener(provider.getNetwork().parseAddress("127.0.0.1").wait(scope)->listen()),
         address(provider.getNetwork().parseAddress(kj::str("127.0.0.1:", listener->getPort())).wait(scope)),
-        host(provider.getTimer(), [this](const capvet::Refusal &refusal) { refused = textOf(refusal); }),
+        host(provider.getTimer(), [this](const capvet::Ended &ended) { refused = textOf(ended); }, patient(capvet::ServerOptions())),
         serving(serve().eagerlyEvaluate(print)) {}
 
   kj::Own<kj::AsyncIoStream> connect(kj::WaitScope &scope) { return address->connect().wait(scope); }
@@ -153,7 +156,7 @@ std::string resultsOf(Calculator::Client calculator, uint32_t calls, std::vector
             std::to_string(store.send().wait(scope).getCount());
   }
   auto failed = kj::runCatchingExceptions([&]() { calculator.failRequest().send().wait(scope); });
-  if (auto *exception = capvet::valueOf(failed)) text += std::string(" failed ") + exception->getDescription().cStr();
+  if (auto *exception = valueOf(failed)) text += std::string(" failed ") + exception->getDescription().cStr();
   return text;
 }
 
@@ -228,7 +231,7 @@ void send(Server &server, const Bytes &bytes, kj::AsyncIoContext &io) {
                   .then([&]() { stream->shutdownWrite(); }, [](kj::Exception &&) {});
   auto replies = stream->readAllBytes().then([](auto &&) {}, [](kj::Exception &&) {});
   sent.wait(io.waitScope);
-  io.provider->getTimer().timeoutAfter(20 * kj::SECONDS, kj::mv(replies)).wait(io.waitScope);
+  io.provider->getTimer().timeoutAfter(10 * kj::MINUTES, kj::mv(replies)).wait(io.waitScope);
 }
 
 int attack(kj::AsyncIoContext &io, const char *path, const char *validPath) {
@@ -280,14 +283,14 @@ std::string read(capnp::MessageStream &stream, kj::ArrayPtr<kj::AutoCloseFd> fds
   auto failed = kj::runCatchingExceptions([&]() {
     auto got = stream.tryReadMessage(fds, options).wait(scope);
     text = "ended";
-    if (auto *message = capvet::valueOf(got)) {
+    if (auto *message = valueOf(got)) {
       auto root = message->reader->getRoot<capnp::AnyPointer>().targetSize();
       auto limits = message->reader->getOptions();
       text = std::to_string(root.wordCount) + " words, " + std::to_string(message->fds.size()) + " files, limits " +
              std::to_string(limits.traversalLimitInWords) + " and " + std::to_string(limits.nestingLimit);
     }
   });
-  if (auto *exception = capvet::valueOf(failed)) {
+  if (auto *exception = valueOf(failed)) {
     const bool is_failed = exception->getType() == kj::Exception::Type::FAILED;
     text = is_failed ? "" : kj::str(exception->getType(), ": ").cStr();
     text += exception->getDescription().cStr();
@@ -300,23 +303,25 @@ enum class Files { READ, NOT_READ, AROUND };
 const Files KINDS[] = {Files::READ, Files::NOT_READ, Files::AROUND};
 const char *const KIND_NAMES[] = {"files read", "files not read", "around"};
 
+capvet::StreamOptions ofServer() { return patient(capvet::StreamOptions(Side::SERVER)); }
+
 // A vetting stream of that kind over an end of a pipe, or around the stream of messages there.
 kj::Own<capvet::VettingStream> vettingBy(Files kind, kj::AsyncCapabilityStream &end, capnp::MessageStream &in,
-                                         capvet::Options options = {}) {
-  auto onRefused = [](auto &refusal) { printf("  onRefused %s\n", kj::str(refusal).cStr()); };
+                                         kj::Timer &timer, const capvet::StreamOptions &options = ofServer()) {
+  auto onEnded = [](auto &ended) { printf("  onEnded %s\n", kj::str(ended).cStr()); };
   kj::AsyncIoStream &bytes = end;
-  return kind == Files::READ       ? kj::heap<capvet::VettingStream>(end, options, kj::mv(onRefused))
-         : kind == Files::NOT_READ ? kj::heap<capvet::VettingStream>(bytes, options, kj::mv(onRefused))
-                                   : kj::heap<capvet::VettingStream>(in, options, kj::mv(onRefused));
+  return kind == Files::READ       ? kj::heap<capvet::VettingStream>(end, timer, options, onEnded)
+         : kind == Files::NOT_READ ? kj::heap<capvet::VettingStream>(bytes, timer, options, onEnded)
+                                   : kj::heap<capvet::VettingStream>(in, options, onEnded);
 }
 
 // Writes a message with two file descriptors to a pipe, and reads it by a vetting stream of that kind.
-void readBy(Files kind, kj::ArrayPtr<const kj::ArrayPtr<const capnp::word>> segments, capvet::Options options,
+void readBy(Files kind, kj::ArrayPtr<const kj::ArrayPtr<const capnp::word>> segments, const capvet::StreamOptions &options,
             capnp::ReaderOptions atLeast, kj::AsyncIoContext &io) {
   auto pipe = io.provider->newCapabilityPipe();
   auto &end = *pipe.ends[0];
   capnp::AsyncCapabilityMessageStream in(end), out(*pipe.ends[1]);
-  auto vetting = vettingBy(kind, end, in, options);
+  auto vetting = vettingBy(kind, end, in, io.provider->getTimer(), options);
   const int files[] = {0, 1};
   // (written through, in one batch with a message after it)
   capvet::VettingStream writing(out);
@@ -338,8 +343,8 @@ void readBy(Files kind, kj::ArrayPtr<const kj::ArrayPtr<const capnp::word>> segm
   printf("  the same buffer: %d\n", size == in.getSendBufferSize().orDefault(-1));
 }
 
-void readOne(const char *name, kj::ArrayPtr<const kj::ArrayPtr<const capnp::word>> segments, capvet::Options options,
-             kj::AsyncIoContext &io, capnp::ReaderOptions atLeast = {10, 3}) {
+void readOne(const char *name, kj::ArrayPtr<const kj::ArrayPtr<const capnp::word>> segments,
+             const capvet::StreamOptions &options, kj::AsyncIoContext &io, capnp::ReaderOptions atLeast = {10, 3}) {
   for (auto kind : KINDS) {
     printf("%s, %s\n", name, KIND_NAMES[static_cast<int>(kind)]);
     const auto before = openFiles();
@@ -364,7 +369,7 @@ void readParts(const char *name, kj::ArrayPtr<const kj::ArrayPtr<const capnp::wo
     for (size_t length = 0; length < frame.size(); length++) {
       auto pipe = io.provider->newCapabilityPipe();
       capnp::AsyncCapabilityMessageStream in(*pipe.ends[0]);
-      auto vetting = vettingBy(kind, *pipe.ends[0], in);
+      auto vetting = vettingBy(kind, *pipe.ends[0], in, io.provider->getTimer());
       auto reading = vetting->readMessage();
       for (auto &byte : frame) {
         KJ_ASSERT(!reading.poll(io.waitScope));
@@ -389,7 +394,7 @@ void readIntoScratch(kj::AsyncIoContext &io) {
     printf("scratch space, %s\n ", KIND_NAMES[static_cast<int>(kind)]);
     auto pipe = io.provider->newCapabilityPipe();
     capnp::AsyncCapabilityMessageStream in(*pipe.ends[0]), out(*pipe.ends[1]);
-    auto vetting = vettingBy(kind, *pipe.ends[0], in);
+    auto vetting = vettingBy(kind, *pipe.ends[0], in, io.provider->getTimer());
     auto space = kj::heapArray<capnp::word>(5);
     for (auto segments : {std::vector<kj::ArrayPtr<const capnp::word>>{word}, {four}, {five}, {four, empty}}) {
       out.writeMessage(nullptr, kj::arrayPtr(segments.data(), segments.size())).wait(io.waitScope);
@@ -406,12 +411,14 @@ int streams(kj::AsyncIoContext &io) {
   const auto null = wordsOf({0}), cycle = wordsOf({CYCLE});
   // (a struct of one word, which has one pointer to such a struct, and a segment without words)
   const auto deep = wordsOf({0x0001000000000000, 0x0000000100000000, 7}), empty = wordsOf({});
+  const auto shared = wordsOf({0x0002000000000000, 0x0000000100000004, 0x0000000100000000, 7});
   auto large = kj::heapArray<capnp::word>(100);
   memset(large.asBytes().begin(), 0, large.asBytes().size());
   using Segments = std::vector<kj::ArrayPtr<const capnp::word>>;
   auto of = [](const Segments &segments) { return kj::arrayPtr(segments.data(), segments.size()); };
-  capvet::Options options, four, small;
+  capvet::StreamOptions options(ofServer()), four(options), small(options), exclusive(options);
   four.readings = 4;
+  exclusive.exclusive = true;
   small.limits.message_words = 50;
   readOne("null", of({null}), options, io);
   readOne("default limits", of({null}), options, io, capnp::ReaderOptions());
@@ -419,6 +426,8 @@ int streams(kj::AsyncIoContext &io) {
   readOne("default limits, two levels", of({deep, empty}), options, io, {options.limits.message_words, 4});
   readOne("two levels", of({deep, empty}), options, io);
   readOne("two levels, four readings", of({deep, empty}), four, io);
+  readOne("two levels, exclusive", of({deep, empty}), exclusive, io);
+  readOne("an overlap", of({shared, empty}), exclusive, io);
   readOne("cycle", of({cycle}), options, io);
   readOne("one empty segment", of({empty}), options, io);
   readOne("empty segments", of({empty, empty, empty}), options, io);
@@ -446,14 +455,8 @@ kj::TwoWayPipe overLoopback(kj::AsyncIoContext &io) {
 struct Pair {
   Pair(Way way, bool isPipe, kj::AsyncIoContext &io)
       : pipe(isPipe ? kj::newTwoWayPipe() : overLoopback(io)),
-        host(io.provider->getTimer(), capvet::ignore, timed(io.provider->getTimer())) {
+        host(io.provider->getTimer(), [](const capvet::Ended &) {}, patient(capvet::ServerOptions())) {
     host.serve(kj::mv(pipe.ends[0]), way);
-  }
-
-  static capvet::ServerOptions timed(kj::Timer &timer) {
-    capvet::ServerOptions options;
-    options.messages.timer = &timer;
-    return options;
   }
 
   kj::TwoWayPipe pipe;

@@ -1,10 +1,15 @@
 // Prints what Cap'n Proto's own C++ library makes of messages: the files that are named.
 //
 //     samples FILE...
+//     samples --walk FILE...
 //
-// For each message come the line 'canonical yes' or 'canonical no', and a line for each pointer of its root that isn't null
-// and each type that a schema may have there: a struct, or a list of structs, of texts, or of numbers of 32 bits. The structs
+// For each message comes the line 'canonical yes' or 'canonical no'. Then comes a line for each pointer of its root that isn't
+// null, and each type that a schema may have there: a struct, or a list of structs, of texts, or of 32-bit numbers. The structs
 // have a number of 32 bits and a text. A line has what each element is read as, or 'throws' where the library throws.
+//
+// With --walk it follows every pointer to a struct, under the library's default limits. It prints the words of the structs that it
+// read, each as often as it was read, and the words of the file's segment. Then the same reader does it once more, and a line says
+// whether the library throws.
 
 #include <capnp/any.h>
 #include <capnp/serialize.h>
@@ -79,16 +84,36 @@ void sample(kj::ArrayPtr<const capnp::word> words) {
   }
 }
 
+// The words of the structs that a pointer leads to, with those below.
+uint64_t walked(capnp::AnyPointer::Reader pointer) {
+  auto node = pointer.getAs<capnp::AnyStruct>();
+  uint64_t words = node.getDataSection().size() / sizeof(capnp::word) + node.getPointerSection().size();
+  for (auto each : node.getPointerSection()) words += each.isNull() ? 0 : walked(each);
+  return words;
+}
+
+void walk(kj::ArrayPtr<const capnp::word> words) {
+  capnp::FlatArrayMessageReader reader(words);
+  printf("walked %llu of %zu\n", static_cast<unsigned long long>(walked(reader.getRoot<capnp::AnyPointer>())), words.size() - 1);
+  try {
+    walked(reader.getRoot<capnp::AnyPointer>());
+    puts("again walked");
+  } catch (const kj::Exception &) {
+    puts("again throws");
+  }
+}
+
 }  // namespace
 
 int main(int count, char **names) {
-  for (int k = 1; k < count; k++) {
+  bool walks = count > 1 && std::string(names[1]) == "--walk";
+  for (int k = 1 + walks; k < count; k++) {
     FILE *file = fopen(names[k], "rb");
     if (file == nullptr) return fprintf(stderr, "samples: cannot open %s\n", names[k]), 2;
     auto words = kj::heapArray<capnp::word>(8192);
     size_t length = fread(words.begin(), sizeof(capnp::word), words.size(), file);
     fclose(file);
-    sample(words.slice(0, length));
+    (walks ? walk : sample)(words.slice(0, length));
   }
   return 0;
 }

@@ -1,12 +1,13 @@
 // Servers of RPC on loopback, for tests/attacks.py.
 //
-//     served serve WAY SECONDS CONNECTIONS PACED
+//     served serve WAY SECONDS CONNECTIONS PACED IDLE
 //     served frames CALLS ROWS
 //
 // `serve` serves the calculator of examples/cpp in a way of host.h. A peer has SECONDS for a message and to read one.
-// At most CONNECTIONS are open, if the way has a limit. PACED is 0 or 1. The first line is the port. Then there is a line
-// for each refusal: 'refused', the peer, the length of the bytes, the text, and the path if there is one. For each line of
-// standard input there is one 'memory', with the bytes that are allocated, and 'counters', with those of capvet::Server.
+// At most CONNECTIONS are open, if the way has a limit. PACED is 0 or 1. IDLE is how many seconds a
+// connection may be idle, or 0. The first line is the port. Then there is a line for each refusal: 'refused', the peer, the
+// length of the bytes, the text, and the path if there is one. For each line of standard input there is one 'memory', with the
+// bytes that are allocated, and 'counters', with those of capvet::Server.
 //
 // `frames` writes the messages of a client that makes CALLS calls at once: `rows` of ROWS rows, or `add`
 // where ROWS is 0.
@@ -36,7 +37,7 @@ void printState(const Host &host) {
   for (auto &[answer, count] : seen.refused) refused += count;
   print(std::string("memory ") + std::to_string(info.uordblks + info.hblkhd) + " counters " +
         kj::str("accepted ", seen.accepted, " open ", seen.open, " turned away ", seen.turnedAway, " late ", seen.late,
-                " unread ", seen.unread, " refused ", refused)
+                " idle ", seen.idle, " unread ", seen.unread, " refused ", refused)
             .cStr());
 }
 
@@ -49,20 +50,20 @@ kj::Promise<void> answer(kj::AsyncInputStream &in, kj::byte *byte, const Host &h
   });
 }
 
-int serve(const std::string &name, int seconds, uint32_t connections, bool paced) {
+int serve(const std::string &name, int seconds, uint32_t connections, unsigned paced, int idle) {
   const auto way = std::find(std::begin(NAMES), std::end(NAMES), name) - std::begin(NAMES);
   KJ_REQUIRE(way < std::end(NAMES) - std::begin(NAMES), "no such way");
   auto io = kj::setupAsyncIo();
   capvet::ServerOptions options;
-  options.messages.limits.message_words = 1 << 17;
-  options.messages.limits.charge = 1 << 17;
-  options.messages.limits.depth = 32;
-  options.messages.timer = &io.provider->getTimer();
-  options.messages.deadline = options.messages.unread = seconds * kj::SECONDS;
-  options.messages.paced = paced;
+  options.limits.message_words = 1 << 17;
+  options.limits.charge = 1 << 17;
+  options.limits.depth = 32;
+  options.deadline = options.unread = seconds * kj::SECONDS;
+  options.idle = idle * kj::SECONDS;
+  options.paced = paced > 0;
   options.connections = options.connectionsOfAddress = connections;
-  auto reported = [](const capvet::Refusal &refusal) {
-    print(kj::str("refused ", refusal.peer, " ", refusal.bytes.size(), " ", textOf(refusal)).cStr());
+  auto reported = [](const capvet::Ended &ended) {
+    print(kj::str("refused ", ended.peer, " ", lengthOf(ended), " ", textOf(ended)).cStr());
   };
   Host host(io.provider->getTimer(), reported, options);
   auto listener = io.provider->getNetwork().parseAddress("127.0.0.1").wait(io.waitScope)->listen();
@@ -105,10 +106,10 @@ int frames(uint32_t calls, uint32_t rows) {
 int main(int count, char **words) {
   const std::string mode = count > 1 ? words[1] : "";
   auto numberOf = [&](int at) { return static_cast<unsigned>(strtoul(words[at], nullptr, 10)); };
-  if (mode == "serve" && count == 6) {
-    return serve(words[2], static_cast<int>(numberOf(3)), numberOf(4), numberOf(5) != 0);
+  if (mode == "serve" && count == 7) {
+    return serve(words[2], static_cast<int>(numberOf(3)), numberOf(4), numberOf(5), static_cast<int>(numberOf(6)));
   }
   if (mode == "frames" && count == 4) return frames(numberOf(2), numberOf(3));
-  fputs("usage: served serve WAY SECONDS CONNECTIONS PACED | frames CALLS ROWS\n", stderr);
+  fputs("usage: served serve WAY SECONDS CONNECTIONS PACED IDLE | frames CALLS ROWS\n", stderr);
   return 2;
 }

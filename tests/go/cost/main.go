@@ -40,7 +40,7 @@ func fromC(b []byte) int {
 // fromGo vets the message from Go.
 func fromGo(b []byte) (accepted int) {
 	for i := 0; i < times; i++ {
-		if _, err := capvet.Vet(b, capvet.Limits{}); err == nil {
+		if _, err := capvet.Vet(b, nil); err == nil {
 			accepted++
 		}
 	}

@@ -1,7 +1,7 @@
 //! The calls of the library, each by two makes: the plain one, and the proved archive.
 
 use capvet_core::cap_calls as plain;
-pub use capvet_core::cap_calls::{CallLimits, CallNode, CallReport, CallStep, Unpacking};
+pub use capvet_core::cap_calls::{CallExtent, CallLimits, CallNode, CallReport, CallStep, OverlapPointer, Unpacking};
 
 /// The calls of `include/capvet.h`, over slices. Each returns the number of its answer.
 pub trait Calls {
@@ -9,8 +9,18 @@ pub trait Calls {
     fn vet(bytes: &[u8], limits: &CallLimits, report: &mut CallReport) -> u32;
     fn vet_exclusive(bytes: &[u8], limits: &CallLimits, marks: &mut [u64], required: &mut usize, report: &mut CallReport) -> u32;
     fn vet_segments(segments: &[&[u8]], limits: &CallLimits, report: &mut CallReport) -> u32;
-    fn segment_at(bytes: &[u8], index: u32, offset: &mut usize, length: &mut usize) -> u32;
-    fn is_canonical(bytes: &[u8], limits: &CallLimits, report: &mut CallReport) -> u32;
+    fn segments(
+        bytes: &[u8],
+        limits: &CallLimits,
+        extents: &mut [CallExtent],
+        required: &mut usize,
+        report: &mut CallReport,
+    ) -> u32;
+    fn check_canonical(bytes: &[u8], limits: &CallLimits, report: &mut CallReport) -> u32;
+    fn check_canonical_words(words: &[u8], limits: &CallLimits, report: &mut CallReport) -> u32;
+    fn first_difference(bytes: &[u8], limits: &CallLimits, report: &mut CallReport) -> u32;
+    fn reader_words(report: &CallReport, readings: u32) -> u64;
+    fn reader_nesting(report: &CallReport) -> u32;
     fn canonical(bytes: &[u8], limits: &CallLimits, out: &mut [u8], required: &mut usize, report: &mut CallReport) -> u32;
     fn get(bytes: &[u8], limits: &CallLimits, path: &[u8], node: &mut CallNode, report: &mut CallReport) -> u32;
     fn get_range(
@@ -32,6 +42,14 @@ pub trait Calls {
     ) -> u32;
     fn earlier_pointer(bytes: &[u8], limits: &CallLimits, number: u64, report: &mut CallReport) -> u32;
     fn explain(bytes: &[u8], limits: &CallLimits, text: &mut [u8], required: &mut usize, report: &mut CallReport) -> u32;
+    fn explain_overlap(
+        bytes: &[u8],
+        limits: &CallLimits,
+        pointer: OverlapPointer,
+        text: &mut [u8],
+        required: &mut usize,
+        report: &mut CallReport,
+    ) -> u32;
     fn pack(bytes: &[u8], out: &mut [u8], required: &mut usize) -> u32;
     fn unpack(bytes: &[u8], out: &mut [u8], required: &mut usize) -> u32;
     fn pack_message(bytes: &[u8], limits: &CallLimits, out: &mut [u8], required: &mut usize, report: &mut CallReport) -> u32;
@@ -64,11 +82,29 @@ impl Calls for Plain {
     fn vet_segments(segments: &[&[u8]], limits: &CallLimits, report: &mut CallReport) -> u32 {
         plain::vet_segments(segments, limits, report).number()
     }
-    fn segment_at(bytes: &[u8], index: u32, offset: &mut usize, length: &mut usize) -> u32 {
-        plain::segment_at(bytes, index, offset, length).number()
+    fn segments(
+        bytes: &[u8],
+        limits: &CallLimits,
+        extents: &mut [CallExtent],
+        required: &mut usize,
+        report: &mut CallReport,
+    ) -> u32 {
+        plain::segments(bytes, limits, extents, required, report).number()
     }
-    fn is_canonical(bytes: &[u8], limits: &CallLimits, report: &mut CallReport) -> u32 {
-        plain::is_canonical(bytes, limits, report).number()
+    fn check_canonical(bytes: &[u8], limits: &CallLimits, report: &mut CallReport) -> u32 {
+        plain::check_canonical(bytes, limits, report).number()
+    }
+    fn check_canonical_words(words: &[u8], limits: &CallLimits, report: &mut CallReport) -> u32 {
+        plain::check_canonical_words(words, limits, report).number()
+    }
+    fn first_difference(bytes: &[u8], limits: &CallLimits, report: &mut CallReport) -> u32 {
+        plain::first_difference(bytes, limits, report).number()
+    }
+    fn reader_words(report: &CallReport, readings: u32) -> u64 {
+        plain::reader_words(report, readings)
+    }
+    fn reader_nesting(report: &CallReport) -> u32 {
+        plain::reader_nesting(report)
     }
     fn canonical(bytes: &[u8], limits: &CallLimits, out: &mut [u8], required: &mut usize, report: &mut CallReport) -> u32 {
         plain::canonical(bytes, limits, out, required, report).number()
@@ -102,6 +138,16 @@ impl Calls for Plain {
     }
     fn explain(bytes: &[u8], limits: &CallLimits, text: &mut [u8], required: &mut usize, report: &mut CallReport) -> u32 {
         plain::explain(bytes, limits, text, required, report).number()
+    }
+    fn explain_overlap(
+        bytes: &[u8],
+        limits: &CallLimits,
+        pointer: OverlapPointer,
+        text: &mut [u8],
+        required: &mut usize,
+        report: &mut CallReport,
+    ) -> u32 {
+        plain::explain_overlap(bytes, limits, pointer, text, required, report).number()
     }
     fn pack(bytes: &[u8], out: &mut [u8], required: &mut usize) -> u32 {
         plain::pack(bytes, out, required).number()
@@ -139,7 +185,7 @@ pub use proved::Proved;
 
 #[cfg(feature = "proved")]
 mod proved {
-    use super::{CallLimits, CallNode, CallReport, CallStep, Calls, Unpacking};
+    use super::{CallExtent, CallLimits, CallNode, CallReport, CallStep, Calls, OverlapPointer, Unpacking};
 
     /// The proved archive.
     pub struct Proved;
@@ -164,8 +210,20 @@ mod proved {
             report: &mut CallReport,
         ) -> u32;
         fn capvet_vet_segments(segments: *const Segment, count: usize, limits: &CallLimits, report: &mut CallReport) -> u32;
-        fn capvet_segment_at(bytes: *const u8, length: usize, index: u32, offset: &mut usize, size: &mut usize) -> u32;
-        fn capvet_is_canonical(bytes: *const u8, length: usize, limits: &CallLimits, report: &mut CallReport) -> u32;
+        fn capvet_segments(
+            bytes: *const u8,
+            length: usize,
+            limits: &CallLimits,
+            extents: *mut CallExtent,
+            count: usize,
+            required: &mut usize,
+            report: &mut CallReport,
+        ) -> u32;
+        fn capvet_check_canonical(bytes: *const u8, length: usize, limits: &CallLimits, report: &mut CallReport) -> u32;
+        fn capvet_check_canonical_words(words: *const u8, length: usize, limits: &CallLimits, report: &mut CallReport) -> u32;
+        fn capvet_first_difference(bytes: *const u8, length: usize, limits: &CallLimits, report: &mut CallReport) -> u32;
+        fn capvet_reader_words(report: &CallReport, readings: u32) -> u64;
+        fn capvet_reader_nesting(report: &CallReport) -> u32;
         fn capvet_canonical(
             bytes: *const u8,
             length: usize,
@@ -222,8 +280,20 @@ mod proved {
             required: &mut usize,
             report: &mut CallReport,
         ) -> u32;
-        fn capvet_pack(bytes: *const u8, length: usize, out: *mut u8, size: usize, required: &mut usize) -> u32;
-        fn capvet_unpack(bytes: *const u8, length: usize, out: *mut u8, size: usize, required: &mut usize) -> u32;
+        fn capvet_explain_overlap(
+            bytes: *const u8,
+            length: usize,
+            limits: &CallLimits,
+            segment: u32,
+            word: u32,
+            number: u64,
+            text: *mut u8,
+            size: usize,
+            required: &mut usize,
+            report: &mut CallReport,
+        ) -> u32;
+        fn capvet_pack_words(bytes: *const u8, length: usize, out: *mut u8, size: usize, required: &mut usize) -> u32;
+        fn capvet_unpack_words(bytes: *const u8, length: usize, out: *mut u8, size: usize, required: &mut usize) -> u32;
         fn capvet_pack_message(
             bytes: *const u8,
             length: usize,
@@ -272,11 +342,29 @@ mod proved {
             let raw: Vec<_> = segments.iter().map(|it| Segment { bytes: it.as_ptr(), length: it.len() }).collect();
             unsafe { capvet_vet_segments(raw.as_ptr(), raw.len(), limits, report) }
         }
-        fn segment_at(bytes: &[u8], index: u32, offset: &mut usize, length: &mut usize) -> u32 {
-            unsafe { capvet_segment_at(bytes.as_ptr(), bytes.len(), index, offset, length) }
+        fn segments(
+            bytes: &[u8],
+            limits: &CallLimits,
+            extents: &mut [CallExtent],
+            required: &mut usize,
+            report: &mut CallReport,
+        ) -> u32 {
+            unsafe { capvet_segments(bytes.as_ptr(), bytes.len(), limits, extents.as_mut_ptr(), extents.len(), required, report) }
         }
-        fn is_canonical(bytes: &[u8], limits: &CallLimits, report: &mut CallReport) -> u32 {
-            unsafe { capvet_is_canonical(bytes.as_ptr(), bytes.len(), limits, report) }
+        fn check_canonical(bytes: &[u8], limits: &CallLimits, report: &mut CallReport) -> u32 {
+            unsafe { capvet_check_canonical(bytes.as_ptr(), bytes.len(), limits, report) }
+        }
+        fn check_canonical_words(words: &[u8], limits: &CallLimits, report: &mut CallReport) -> u32 {
+            unsafe { capvet_check_canonical_words(words.as_ptr(), words.len(), limits, report) }
+        }
+        fn first_difference(bytes: &[u8], limits: &CallLimits, report: &mut CallReport) -> u32 {
+            unsafe { capvet_first_difference(bytes.as_ptr(), bytes.len(), limits, report) }
+        }
+        fn reader_words(report: &CallReport, readings: u32) -> u64 {
+            unsafe { capvet_reader_words(report, readings) }
+        }
+        fn reader_nesting(report: &CallReport) -> u32 {
+            unsafe { capvet_reader_nesting(report) }
         }
         fn canonical(bytes: &[u8], limits: &CallLimits, out: &mut [u8], required: &mut usize, report: &mut CallReport) -> u32 {
             unsafe { capvet_canonical(bytes.as_ptr(), bytes.len(), limits, out.as_mut_ptr(), out.len(), required, report) }
@@ -326,11 +414,25 @@ mod proved {
         fn explain(bytes: &[u8], limits: &CallLimits, text: &mut [u8], required: &mut usize, report: &mut CallReport) -> u32 {
             unsafe { capvet_explain(bytes.as_ptr(), bytes.len(), limits, text.as_mut_ptr(), text.len(), required, report) }
         }
+        fn explain_overlap(
+            bytes: &[u8],
+            limits: &CallLimits,
+            pointer: OverlapPointer,
+            text: &mut [u8],
+            required: &mut usize,
+            report: &mut CallReport,
+        ) -> u32 {
+            let OverlapPointer { segment, word, number } = pointer;
+            let (text, size) = (text.as_mut_ptr(), text.len());
+            unsafe {
+                capvet_explain_overlap(bytes.as_ptr(), bytes.len(), limits, segment, word, number, text, size, required, report)
+            }
+        }
         fn pack(bytes: &[u8], out: &mut [u8], required: &mut usize) -> u32 {
-            unsafe { capvet_pack(bytes.as_ptr(), bytes.len(), out.as_mut_ptr(), out.len(), required) }
+            unsafe { capvet_pack_words(bytes.as_ptr(), bytes.len(), out.as_mut_ptr(), out.len(), required) }
         }
         fn unpack(bytes: &[u8], out: &mut [u8], required: &mut usize) -> u32 {
-            unsafe { capvet_unpack(bytes.as_ptr(), bytes.len(), out.as_mut_ptr(), out.len(), required) }
+            unsafe { capvet_unpack_words(bytes.as_ptr(), bytes.len(), out.as_mut_ptr(), out.len(), required) }
         }
         fn pack_message(bytes: &[u8], limits: &CallLimits, out: &mut [u8], required: &mut usize, report: &mut CallReport) -> u32 {
             unsafe { capvet_pack_message(bytes.as_ptr(), bytes.len(), limits, out.as_mut_ptr(), out.len(), required, report) }

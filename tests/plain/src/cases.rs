@@ -1,6 +1,6 @@
 //! All calls on one message, with buffers and limits that are just enough and just not.
 
-use crate::calls::{CallLimits, CallNode, CallReport, CallStep, Calls, Unpacking};
+use crate::calls::{CallExtent, CallLimits, CallNode, CallReport, CallStep, Calls, OverlapPointer, Unpacking};
 use crate::random::Random;
 
 // Reports and nodes begin with these numbers, so that what a call doesn't write is seen.
@@ -15,7 +15,8 @@ const REPORT: CallReport = CallReport {
     segments: 8,
     segment: 9,
     word: 10,
-    reserved: [11; 4],
+    words: 12,
+    reserved: [11; 6],
 };
 const NODE: CallNode = CallNode {
     kind: 91,
@@ -56,14 +57,17 @@ pub enum Case {
     Vet,
     Exclusive { marks: usize },
     Segments { cut: usize, more: usize },
-    SegmentAt { index: u32 },
-    IsCanonical,
+    Extents { count: usize },
+    Check,
+    CheckWords,
+    Difference,
     Canonical { size: usize },
     Get { path: String },
     Range { steps: Vec<CallStep>, varying: usize, count: usize },
     Path { number: u64, count: usize },
     Earlier { number: u64 },
     Explain { size: usize },
+    Overlap { place: (u32, u32), number: u64, size: usize },
     Pack { size: usize },
     Unpack { size: usize },
     PackMessage { size: usize },
@@ -78,14 +82,17 @@ impl Case {
             Case::Vet => "vet",
             Case::Exclusive { .. } => "vet_exclusive",
             Case::Segments { .. } => "vet_segments",
-            Case::SegmentAt { .. } => "segment_at",
-            Case::IsCanonical => "is_canonical",
+            Case::Extents { .. } => "segments",
+            Case::Check => "check_canonical",
+            Case::CheckWords => "check_canonical_words",
+            Case::Difference => "first_difference",
             Case::Canonical { .. } => "canonical",
             Case::Get { .. } => "get",
             Case::Range { .. } => "get_range",
             Case::Path { .. } => "pointer_path",
             Case::Earlier { .. } => "earlier_pointer",
             Case::Explain { .. } => "explain",
+            Case::Overlap { .. } => "explain_overlap",
             Case::Pack { .. } => "pack",
             Case::Unpack { .. } => "unpack",
             Case::PackMessage { .. } => "pack_message",
@@ -115,12 +122,20 @@ impl Case {
                 segments.resize(segments.len() + more, &[]);
                 Outcome::of(C::vet_segments(&segments, limits, &mut report), report, &[])
             }
-            Case::SegmentAt { index } => {
-                let (mut offset, mut length) = (5, 6);
-                let answer = C::segment_at(bytes, *index, &mut offset, &mut length);
-                Outcome::of(answer, report, &[offset as u64, length as u64])
+            Case::Extents { count } => {
+                let mut extents = vec![CallExtent { offset: 5, length: 6 }; *count];
+                let answer = C::segments(bytes, limits, &mut extents, &mut required, &mut report);
+                let mut numbers = vec![required as u64];
+                numbers.extend(extents.iter().flat_map(|it| [it.offset, it.length]));
+                Outcome { numbers, ..Outcome::of(answer, report, &[]) }
             }
-            Case::IsCanonical => Outcome::of(C::is_canonical(bytes, limits, &mut report), report, &[]),
+            Case::Check => Outcome::of(C::check_canonical(bytes, limits, &mut report), report, &[]),
+            Case::CheckWords => {
+                let answer = C::check_canonical_words(bytes, limits, &mut report);
+                let needed = [C::reader_words(&report, limits.depth), u64::from(C::reader_nesting(&report))];
+                Outcome::of(answer, report, &needed)
+            }
+            Case::Difference => Outcome::of(C::first_difference(bytes, limits, &mut report), report, &[]),
             Case::Canonical { size } => {
                 let mut out = vec![FILL; *size];
                 let answer = C::canonical(bytes, limits, &mut out, &mut required, &mut report);
@@ -147,6 +162,12 @@ impl Case {
             Case::Explain { size } => {
                 let mut out = vec![FILL; *size];
                 let answer = C::explain(bytes, limits, &mut out, &mut required, &mut report);
+                with_bytes(answer, report, &[required as u64], out)
+            }
+            Case::Overlap { place: (segment, word), number, size } => {
+                let pointer = OverlapPointer { segment: *segment, word: *word, number: *number };
+                let mut out = vec![FILL; *size];
+                let answer = C::explain_overlap(bytes, limits, pointer, &mut out, &mut required, &mut report);
                 with_bytes(answer, report, &[required as u64], out)
             }
             Case::Pack { size } => {
@@ -197,15 +218,13 @@ fn unpacked<C: Calls>(packed: &[u8], limits: &CallLimits, size: usize, state: Un
 
 /// The segments of the frame at the start of bytes.
 fn segments_of<C: Calls>(bytes: &[u8]) -> Vec<&[u8]> {
-    let mut segments = Vec::new();
-    for index in 0.. {
-        let (mut offset, mut length) = (0, 0);
-        if C::segment_at(bytes, index, &mut offset, &mut length) != 0 {
-            break;
-        }
-        segments.push(&bytes[offset..offset + length]);
+    let limits = CallLimits { message_words: 1 << 28, ..CallLimits::default_limits() };
+    let mut extents = [CallExtent { offset: 0, length: 0 }; 512];
+    let (mut count, mut report) = (0, REPORT);
+    if C::segments(bytes, &limits, &mut extents, &mut count, &mut report) != 0 {
+        return Vec::new();
     }
-    segments
+    extents[..count].iter().map(|it| &bytes[it.offset as usize..(it.offset + it.length) as usize]).collect()
 }
 
 /// Limits at random: many are those of `CAPVET_LIMITS_INIT`.
@@ -231,12 +250,18 @@ pub fn some_limits(random: &mut Random) -> CallLimits {
     }
     limits.flags = match random.below(8) {
         0..=3 => 0,
-        4 | 5 => 7,
-        6 => random.below(8) as u32,
-        _ => random.below(32) as u32,
+        4 | 5 => 3,
+        6 => random.below(4) as u32,
+        _ => random.below(8) as u32,
+    };
+    limits.form = match random.below(8) {
+        0..=3 => 0,
+        4 | 5 => 1,
+        6 => 2,
+        _ => random.below(4) as u32,
     };
     if random.once_in(500) {
-        limits.reserved[random.place(2)] = 1;
+        limits.reserved[random.place(6)] = 1;
     }
     limits
 }

@@ -72,20 +72,24 @@ fn try_message(tally: &mut Tally, random: &mut Random, bytes: &[u8], limits: &Ca
     let vetted = tally.run(&Case::Vet, bytes, limits);
     if vetted.answer == 0 {
         let near = cases::limits_at(random, limits, &vetted.report);
-        for case in [Case::Vet, Case::IsCanonical, Case::Explain { size: 6144 }, Case::Frame] {
+        for case in [Case::Vet, Case::Check, Case::Difference, Case::Explain { size: 6144 }, Case::Frame] {
             tally.run(&case, bytes, &near);
         }
     }
     try_marks(tally, random, bytes, limits);
     try_segments(tally, random, bytes, limits);
-    tally.run(&Case::IsCanonical, bytes, limits);
+    tally.run(&Case::Check, bytes, limits);
+    tally.run(&Case::Difference, bytes, limits);
+    tally.run(&Case::CheckWords, bytes.get(8..).unwrap_or(bytes), limits);
     let whole = tally.run(&Case::Canonical { size: 0 }, bytes, limits);
     let required = whole.numbers[0] as usize;
     let copy = tally.run(&Case::Canonical { size: required.min(1 << 22) }, bytes, limits);
     tally.run(&Case::Canonical { size: cases::size(random, required) }, bytes, limits);
     if copy.answer == 0 {
-        let words = CallLimits { flags: 8 | limits.flags & 6, ..*limits };
-        tally.run(&Case::IsCanonical, &copy.bytes, &words);
+        let words = CallLimits { form: 2, ..*limits };
+        tally.run(&Case::Check, &copy.bytes, &words);
+        tally.run(&Case::Difference, &copy.bytes, &words);
+        tally.run(&Case::CheckWords, &copy.bytes, limits);
     }
     try_nodes(tally, random, bytes, limits);
     try_pointers(tally, random, bytes, limits, vetted.report.pointers);
@@ -103,8 +107,8 @@ fn try_marks(tally: &mut Tally, random: &mut Random, bytes: &[u8], limits: &Call
 }
 
 fn try_segments(tally: &mut Tally, random: &mut Random, bytes: &[u8], limits: &CallLimits) {
-    for index in [0, 1, random.near(512) as u32, u32::MAX] {
-        tally.run(&Case::SegmentAt { index }, bytes, limits);
+    for count in [0, 1, random.near(512) as usize, 512] {
+        tally.run(&Case::Extents { count: count.min(600) }, bytes, limits);
     }
     tally.run(&Case::Segments { cut: 0, more: 0 }, bytes, limits);
     let (cut, more) = (random.place(17), if random.once_in(8) { random.place(514) } else { random.place(2) });
@@ -130,6 +134,10 @@ fn try_pointers(tally: &mut Tally, random: &mut Random, bytes: &[u8], limits: &C
         let count = cases::size(random, path.numbers[0] as usize).min(600);
         tally.run(&Case::Path { number, count }, bytes, limits);
         tally.run(&Case::Earlier { number }, bytes, limits);
+        let place = (random.below(3) as u32, random.below(9) as u32);
+        let lines = tally.run(&Case::Overlap { place, number, size: 12288 }, bytes, limits);
+        let size = cases::size(random, lines.numbers[0] as usize);
+        tally.run(&Case::Overlap { place, number, size }, bytes, limits);
     }
     let explained = tally.run(&Case::Explain { size: 6144 }, bytes, limits);
     let size = cases::size(random, explained.numbers[0] as usize);
@@ -175,7 +183,7 @@ fn main() {
         let mut random = Random::new(seed << 32 | number);
         let mut bytes = messages::message(&mut random);
         let limits = cases::some_limits(&mut random);
-        if limits.flags & 8 != 0 && random.once_in(2) && bytes.len() > 8 {
+        if limits.form == 2 && random.once_in(2) && bytes.len() > 8 {
             bytes.drain(..8);
         }
         try_message(&mut tally, &mut random, &bytes, &limits);

@@ -271,8 +271,8 @@ fn many_segments(random: &mut Random) -> (Vec<Vec<u64>>, Vec<(usize, usize)>) {
     (segments, vec![(0, 0), (last, 0)])
 }
 
-/// A message whose pointers are far ones to landing pads of all forms: null, a capability, a pointer to an empty or a full segment,
-/// another far pointer; whole, or at the end of their segment.
+/// A message whose pointers are far ones to landing pads of all forms. A pad is null, a capability, a pointer to an empty or a full
+/// segment, or another far pointer. It is whole, or at the end of its segment.
 fn pads(random: &mut Random) -> (Vec<Vec<u64>>, Vec<(usize, usize)>) {
     let mut segments = vec![vec![struct_bits(0, 4), 0, 0, 0, 0], Vec::new(), Vec::new(), Vec::new()];
     let mut pointers = vec![(0, 0)];

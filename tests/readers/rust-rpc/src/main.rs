@@ -13,6 +13,7 @@ use capvet_capnp_rpc::VettingRead;
 use futures::io::{AsyncRead, AsyncReadExt, AsyncWrite};
 use rpc::calculator_capnp::calculator;
 use rpc::Calculator;
+use std::future::pending;
 use tokio::runtime::Builder;
 use tokio::task::{spawn_local, LocalSet};
 use tokio_util::compat::TokioAsyncReadCompatExt;
@@ -27,17 +28,17 @@ where
     let service: calculator::Client = capnp_rpc::new_client(Calculator);
     let options = capvet_capnp::options_for(Limits::DEFAULT);
     let network = VatNetwork::new(reader, writer, Side::Server, options);
-    spawn_local(RpcSystem::new(
-        Box::new(network),
-        Some(service.into_client()),
-    ));
+    spawn_local(RpcSystem::new(Box::new(network), Some(service.client)));
 }
 
 fn connect(is_vetting: bool) -> calculator::Client {
     let (one, other) = tokio::io::duplex(PIPE);
     let (reader, writer) = one.compat().split();
     if is_vetting {
-        serve(VettingRead::new(reader, Limits::DEFAULT, ()), writer);
+        serve(
+            VettingRead::new(reader, Limits::DEFAULT, |_| pending()),
+            writer,
+        );
     } else {
         serve(reader, writer);
     }

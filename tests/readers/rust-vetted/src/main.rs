@@ -14,10 +14,18 @@ use std::fs::File;
 use std::io::{BufReader, BufWriter, Read, Write};
 use std::process::exit;
 
+/// The lowest limits of a reader for so many readings of a message.
+fn least(report: &Report, readings: u32) -> ReaderOptions {
+    let mut options = ReaderOptions::new();
+    options.traversal_limit_in_words(Some(report.reader_words(readings) as usize));
+    options.nesting_limit(report.reader_nesting() as i32);
+    options
+}
+
 /// What the readings of an accepted message find, under the limits for one reading, and then for four.
-fn readings(vetted: &Vetted<&[u8]>) -> capnp::Result<String> {
-    let text = walk::walk(&Reader::new(vetted, vetted.least_options(1)), false)?;
-    let message = Reader::new(vetted, vetted.least_options(4));
+fn readings(vetted: &Vetted<'_>) -> capnp::Result<String> {
+    let text = walk::walk(&Reader::new(vetted, least(vetted.report(), 1)), false)?;
+    let message = Reader::new(vetted, least(vetted.report(), 4));
     if walk::walk(&message, false)? != text || walk::walk(&message, true)? != text {
         return Ok(format!("two readings differ: {text}"));
     }
@@ -30,13 +38,13 @@ fn readings(vetted: &Vetted<&[u8]>) -> capnp::Result<String> {
 
 /// The line of a message at this address.
 fn line(bytes: &[u8]) -> String {
-    let limits = Limits::DEFAULT.charge(65_536);
+    let limits = Limits::DEFAULT.with_charge(65_536);
     let verdict = capvet_capnp::vetted(bytes, limits);
     if !agrees(bytes, limits, verdict.as_ref().map_err(ToString::to_string)) {
         return "an owner of the bytes or its segments have another verdict".into();
     }
     match verdict {
-        Err(error) => match error.reason() {
+        Err(error) => match error.error() {
             VetError::Refused(refusal) => match refusal.path(bytes, limits) {
                 Some(path) => format!("{error} path {path}"),
                 None => error.to_string(),
@@ -48,27 +56,24 @@ fn line(bytes: &[u8]) -> String {
 }
 
 /// Whether an owner of the same bytes, and the segments by the reader of `capnp`, have this verdict.
-fn agrees(bytes: &[u8], limits: Limits, verdict: Result<&Vetted<&[u8]>, String>) -> bool {
-    let owned = capvet_capnp::vetted(bytes.to_vec(), limits).map_err(|error| error.to_string());
-    let is_same = |report: &Report| match (&verdict, &owned) {
-        (Ok(one), Ok(other)) => {
-            one.report() == other.report() && one.report().charge == report.charge
-        }
-        _ => false,
+fn agrees(bytes: &[u8], limits: Limits, verdict: Result<&Vetted<'_>, String>) -> bool {
+    let text = |it: Result<Vetted<'_>, capvet_capnp::Error>| match it {
+        Ok(vetted) => Ok(*vetted.report()),
+        Err(error) => Err(error.to_string()),
     };
+    let verdict = verdict.map(|it| *it.report());
+    let owned = text(capvet_capnp::vetted(bytes.to_vec(), limits));
     // (that reader takes fewer segments, and none that are longer than its limit)
     let mut options = ReaderOptions::new();
     options.traversal_limit_in_words(None);
     let separate = match serialize::read_message(bytes, options) {
-        Ok(message) => capvet_capnp::vet_segments(&message.into_segments(), limits),
-        Err(_) => return verdict.as_ref().err() == owned.as_ref().err(),
+        Ok(message) => text(capvet_capnp::vetted_segments(
+            &message.into_segments(),
+            limits,
+        )),
+        Err(_) => verdict.clone(),
     };
-    match separate {
-        Ok(report) => is_same(&report),
-        Err(error) => {
-            verdict.err() == Some(error.to_string()) && owned.err() == Some(error.to_string())
-        }
-    }
+    verdict == owned && verdict == separate
 }
 
 /// The next message of the file, at an address that is a multiple of 8, and at one that isn't.

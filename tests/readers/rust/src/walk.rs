@@ -2,8 +2,12 @@
 
 use capnp::message::{Reader, ReaderSegments};
 use capnp::private::layout::{ElementSize, ListReader, PointerReader, PointerType, StructReader};
-use capnp::traits::{FromPointerReader, IntoInternalListReader};
-use capnp::{raw, Result, Word};
+use capnp::traits::{FromPointerReader, IntoInternalListReader, IntoInternalStructReader};
+use capnp::{any_pointer_list, raw, Result, Word};
+
+#[path = "structs.rs"]
+mod structs;
+use structs::structs;
 
 struct Root<'a>(PointerReader<'a>);
 
@@ -17,6 +21,14 @@ struct AnyList<'a>(ListReader<'a>);
 
 impl<'a> IntoInternalListReader<'a> for AnyList<'a> {
     fn into_internal_list_reader(self) -> ListReader<'a> {
+        self.0
+    }
+}
+
+struct AnyStruct<'a>(StructReader<'a>);
+
+impl<'a> IntoInternalStructReader<'a> for AnyStruct<'a> {
+    fn into_internal_struct_reader(self) -> StructReader<'a> {
         self.0
     }
 }
@@ -38,7 +50,7 @@ impl Walk {
             PointerType::Capability => {
                 self.caps += 1;
                 match pointer.get_capability() {
-                    Err(error) if !error.description.contains("invalid capability pointer") => {
+                    Err(error) if !error.to_string().contains("invalid capability pointer") => {
                         Err(error)
                     }
                     _ => Ok(()),
@@ -50,9 +62,12 @@ impl Walk {
     }
 
     fn node(&mut self, node: StructReader<'_>) -> Result<()> {
-        self.bytes(node.get_data_section_as_blob());
-        (0..node.get_pointer_section_size().into())
-            .try_for_each(|i| self.pointer(node.get_pointer_field(i)))
+        self.bytes(raw::get_struct_data_section(AnyStruct(node)));
+        self.pointers(raw::get_struct_pointer_section(AnyStruct(node)))
+    }
+
+    fn pointers(&mut self, list: any_pointer_list::Reader<'_>) -> Result<()> {
+        (0..list.len()).try_for_each(|i| self.pointer(list.get(i).get_as::<Root>()?.0))
     }
 
     fn list(&mut self, pointer: PointerReader<'_>) -> Result<()> {
@@ -62,18 +77,21 @@ impl Walk {
             .or_else(|_| pointer.get_list(ElementSize::Bit, None))?;
         let size = raw::get_list_element_size(AnyList(list));
         if self.upgrades && size != ElementSize::Bit {
-            let list = pointer.get_list(ElementSize::InlineComposite, None)?;
-            return (0..list.len()).try_for_each(|i| self.node(list.get_struct_element(i)));
+            return structs(pointer)?.try_for_each(|it| self.node(it));
         }
         match size {
-            ElementSize::InlineComposite => {
-                (0..list.len()).try_for_each(|i| self.node(list.get_struct_element(i)))
-            }
+            ElementSize::InlineComposite => structs(pointer)?.try_for_each(|it| self.node(it)),
             ElementSize::Pointer => {
-                (0..list.len()).try_for_each(|i| self.pointer(list.get_pointer_element(i)))
+                self.pointers(FromPointerReader::get_from_pointer(&pointer, None)?)
             }
-            ElementSize::Byte => Ok(self.bytes(pointer.get_data(None)?)),
-            _ => Ok(self.bytes(raw::get_list_bytes(AnyList(list)))),
+            _ => {
+                let bytes = match size {
+                    ElementSize::Byte => pointer.get_data(None)?,
+                    _ => raw::get_list_bytes(AnyList(list)),
+                };
+                self.bytes(bytes);
+                Ok(())
+            }
         }
     }
 
