@@ -12,8 +12,10 @@ These are the attacks:
 - changed messages, each on a connection of its own;
 - frames that are cut, too large or of too many segments;
 - more idle connections than there are descriptors, and peers that send a byte a second;
-- peers that read no reply, and a refused message after many calls at once;
-- connections that end in half, or by a reset.
+- peers that read no reply, or read them late, and a refused message after many calls at once;
+- peers that send nothing for longer than they may;
+- connections that end in half, or by a reset;
+- all of these kinds at once, while a client goes on to call `capvet::Server`: HOSTILE connections (hostile.py).
 
 Each refusal has to be reported, with the peer, the length of what came, the text of `capvet vet`, and the path of `capvet explain`.
 
@@ -32,20 +34,22 @@ import tempfile
 import time
 from concurrent.futures import ThreadPoolExecutor
 from pathlib import Path
+from threading import Thread
 
 import trees
 from amount import cases
 from before_readers import CPP, VALID, changed, refusals
 from harness import TOP, compare, ended, framed, run
+from hostile import CYCLE, Hostile, beside_a_client
 from install import make
 from needs import missing
 from readers import Tree
+from rpc import SECONDS, until
 
 WAYS = ("with", "bytes", "served")
 FLAGS = ("-std=c++17", "-O1", "-Wall", "-Wextra", "-Wpedantic", "-Wconversion", "-Werror")
-SECONDS = 60
-# What a server gives its peers, in seconds, and the slack for this machine.
-TIME, SLACK = cases(2, full=3), 20  # seconds that a server gives its peers
+# What a server gives its peers, in seconds, in a case about that, and in others. A busy machine may take long for what isn't hostile.
+TIME, LONG = 8, 600
 MUTATED = cases(150, full=20_000)  # changed messages, each on a connection of its own
 IDLE, DESCRIPTORS = cases((150, 128), full=(1_100, 1_024))  # idle connections, and descriptors of the server
 SLOW = cases(8, full=50)  # peers that send a byte a second
@@ -53,9 +57,15 @@ FRAMES = cases(8, full=100)  # frames that are cut, too large or of too many seg
 CALLS = cases(2_000, full=20_000)  # calls at once before a refused message
 # Calls with large replies, and the bytes of the rows in one.
 LARGE, REPLY = cases(100, full=300), 20_000 * 4 * 8  # calls with large replies that nobody reads
+# A paced server holds as much for each of these numbers.
+PACED_CALLS = cases((100,), full=(100, 1_000, 4_000))  # calls with large replies that nobody reads, to a paced server
+# The most bytes that a paced server holds for them: it takes two calls when the replies before are written, and libcapnp allocates
+# up to twice the bytes of each reply.
+PACED = 6 * REPLY
+SILENT = cases(10, full=200)  # peers that send nothing for longer than they may
+HOSTILE = cases(400, full=10_000)  # hostile connections of all kinds, beside a client
 # Kinds of messages of RPC.
 CALL, RETURN, BOOTSTRAP = 2, 3, 8
-CYCLE = (TOP / "examples/cycle.bin").read_bytes()
 CIRCLE = "refused DepthLimit at 0:0 pointers 33"
 CIRCLE_LINE = f"{CIRCLE} path {'/p0' * 32}"
 
@@ -63,12 +73,12 @@ CIRCLE_LINE = f"{CIRCLE} path {'/p0' * 32}"
 class Server:
     """A server of one way, and the lines that it prints."""
 
-    def __init__(self, folder, way, connections=100_000, paced=False, descriptors=4_096):
+    def __init__(self, folder, way, connections=100_000, paced=0, descriptors=4_096, idle=0, seconds=LONG):
         self.folder, self.way = folder, way
         self.scratch = folder / f"way-{way}"
         self.scratch.mkdir(exist_ok=True)
         self.path = self.scratch / "lines"
-        words = [folder / "served", "serve", way, str(TIME), str(connections), str(int(paced))]
+        words = [folder / "served", "serve", way, str(seconds), str(connections), str(paced), str(idle)]
         # (what glibc keeps for a thread would count as allocated)
         environment = {**os.environ, "GLIBC_TUNABLES": "glibc.malloc.tcache_count=0"}
         with open(self.path, "w") as lines:
@@ -96,9 +106,7 @@ class Server:
 
     def wait(self, word, count):
         """The lines that begin with a word, when there are that many, or when the time is over."""
-        until = time.monotonic() + SECONDS
-        while len(self.lines(word)) < count and time.monotonic() < until:
-            time.sleep(0.01)
+        until(lambda: len(self.lines(word)) >= count)
         return self.lines(word)
 
     def refused(self, count):
@@ -116,13 +124,18 @@ class Server:
         self.counters = {name: int(number) for name, number in re.findall(r"([a-z][a-z ]*) (\d+)", line.partition("counters ")[2])}
         return int(line.split()[1])
 
+    def settled(self):
+        """The counters when no connection is open, or when the time is over."""
+        until(lambda: self.memory() and not self.counters.get("open"))
+        return dict(self.counters)
+
     def open_files(self):
         return len(os.listdir(f"/proc/{self.process.pid}/fd"))
 
-    def resident(self):
-        """The KiB that are resident."""
+    def resident(self, name="VmRSS"):
+        """The KiB that are resident, or were at most (VmHWM)."""
         with open(f"/proc/{self.process.pid}/status") as status:
-            return next(int(line.split()[1]) for line in status if line.startswith("VmRSS"))
+            return next(int(line.split()[1]) for line in status if line.startswith(name))
 
     def call(self):
         """What a client without vetting gets."""
@@ -136,10 +149,9 @@ class Server:
     def survived(self, name):
         """After an attack a client is served, and nothing is left of it."""
         compare(f"{self.way}, after {name}: a client", self.results, self.call())
-        until = time.monotonic() + SLACK
-        while self.open_files() > self.files and time.monotonic() < until:
-            time.sleep(0.05)
+        until(lambda: self.open_files() <= self.files)
         compare(f"{self.way}, after {name}: descriptors", self.files, self.open_files())
+        until(lambda: self.memory() <= 1.1 * self.before)
         now = self.memory()
         compare(f"{self.way}, after {name}: {now} bytes after {self.before}", True, now <= 1.1 * self.before)
 
@@ -218,19 +230,26 @@ def idle(folder, way):
     """More idle connections than the server has descriptors."""
     with Server(folder, way, descriptors=DESCRIPTORS) as server:
         peers = [server.connect() for _ in range(IDLE)]
-        time.sleep(0.5)
+        compare(f"{way}: descriptors that are taken", True, until(lambda: server.open_files() == DESCRIPTORS))
         for peer in peers:
             peer.close()
         server.survived(f"{IDLE} idle connections under {DESCRIPTORS} descriptors")
 
 
-def slow(server):
+def slow(folder, way):
     """Peers that send a byte a second lose the connection at the deadline."""
+    with Server(folder, way, seconds=TIME) as server:
+        late(server)
+        server.survived(f"{SLOW} slow peers")
+
+
+def late(server):
+    """The slow peers, and what is said and counted of them."""
     peers = [server.connect() for _ in range(SLOW)]
     names, begin = sorted(name_of(peer) for peer in peers), time.monotonic()
     message = struct.pack("<II", 0, 100) + bytes(800)
     dropped = {}
-    while len(dropped) < len(peers) and time.monotonic() < begin + TIME + SLACK:
+    while len(dropped) < len(peers) and time.monotonic() < begin + TIME + SECONDS:
         at = int(time.monotonic() - begin)
         for peer in peers:
             if peer in dropped:
@@ -255,35 +274,106 @@ def slow(server):
     compare(f"{server.way}: slow peers that are reported", names, sorted(it[0] for it in got))
     compare(f"{server.way}: their texts", {"late"}, {it[2].rpartition(", ")[2] for it in got})
     print(f"{server.way}: {len(dropped)} peers at a byte a second were dropped after {max(dropped.values(), default=0):.1f} s at most")
-    server.survived(f"{SLOW} slow peers")
+    server.memory()
+    compare(f"{server.way}: slow peers that are counted", SLOW * (server.way == "served"), server.counters["late"])
 
 
-def unread(folder, way, last):
+def silent(folder, way):
+    """Peers that send nothing for TIME get the reason and lose their connections: at once, and after calls. One that calls now
+    and then stays."""
+    calls = subprocess.run([folder / "served", "frames", "999", "0"], capture_output=True, check=True).stdout
+    calls = [framed(*message) for message in trees.messages(calls)]
+    with Server(folder, way, idle=TIME, seconds=LONG) as server, server.connect() as busy:
+        busy.sendall(calls[0])
+        begin, peers = time.monotonic(), [server.connect() for _ in range(SILENT)]
+        for peer in peers[::2]:
+            peer.sendall(b"".join(calls[:3]))
+        with ThreadPoolExecutor(SILENT) as readers:
+            reading = [readers.submit(all_of, peer) for peer in peers]
+            sent = 0
+            while sent < 999 and (time.monotonic() - begin < 2 * TIME or not all(it.done() for it in reading)):
+                sent += 1
+                busy.sendall(calls[sent])
+                time.sleep(TIME / 20)
+            got, took = [it.result() for it in reading], time.monotonic() - begin
+        compare(f"{way}: silent peers that are dropped", SILENT, sum(is_ended for _, is_ended in got))
+        compare(f"{way}: silent peers, not before their time", True, took >= TIME)
+        compare(f"{way}: silent peers that get the reason", SILENT, sum(b"dropped, idle" in data for data, _ in got))
+        compare(f"{way}: replies to peers before they are silent", {3, 0}, {replies_of(data) for data, _ in got})
+        names = sorted(name_of(peer) for peer in peers)
+        compare(f"{way}: lines of silent peers", [[name, "0", "dropped, idle"] for name in names], sorted(server.refused(SILENT)))
+        busy.shutdown(socket.SHUT_WR)
+        data, is_ended = all_of(busy)
+        compare(f"{way}: replies to a peer that calls now and then", (sent + 1, True), (replies_of(data), is_ended))
+        server.memory()
+        compare(f"{way}: silent peers that are counted", SILENT * (way == "served"), server.counters["idle"])
+        for peer in peers:
+            peer.close()
+        server.survived(f"{SILENT} silent peers")
+
+
+def of_all_kinds(folder, frames, valid):
+    """Hostile connections of all kinds beside a client. Afterwards no place of capvet::Server is taken."""
+    with Server(folder, "served", idle=LONG, seconds=30) as server:
+        before = server.settled()
+        bases = [Tree(message) for message in trees.messages(frames)]
+        beside_a_client("served", HOSTILE, Hostile(server.connect, valid, bases), server.call, server.results)
+        server.survived(f"{HOSTILE} hostile connections")
+        after = server.settled()
+        print(f"served: places before {before['open']}, and after {after['open']}; bytes before {server.before}, and after {server.memory()}; "
+              f"{after}")
+        compare("places before and after hostile connections", (0, 0), (before["open"], after["open"]))
+        accepted = after["accepted"] - before["accepted"]
+        compare(f"hostile connections that are accepted, with those of the client: {accepted}", True, accepted > HOSTILE)
+
+
+def unread(folder, way, last, count=LARGE):
     """A peer that makes many calls with large replies, and reads nothing. It ends with a refused message, or in half, or
     the server is paced and so reads few of the calls."""
-    calls = subprocess.run([folder / "served", "frames", str(LARGE), "20000"], capture_output=True, check=True).stdout
-    with Server(folder, way, paced=last == "paced") as server:
+    calls = subprocess.run([folder / "served", "frames", str(count), "20000"], capture_output=True, check=True).stdout
+    with Server(folder, way, paced=int(last == "paced"), seconds=TIME) as server:
         with server.connect() as peer:
-            peer.sendall(calls)
-            if last == "refused":
-                peer.sendall(CYCLE)
-            elif last == "ended":
+            begin = time.monotonic()
+            # (a paced server leaves calls in the buffers of the connection, which may be too small for all of them)
+            sending = Thread(target=send, args=(peer, calls + CYCLE * (last == "refused")))
+            sending.start()
+            if last == "ended":
+                sending.join()
                 peer.shutdown(socket.SHUT_WR)
-            name, most, begin = name_of(peer), 0, time.monotonic()
-            while server.open_files() == server.files and time.monotonic() < begin + SLACK:
-                time.sleep(0.01)
-            while server.open_files() > server.files and time.monotonic() < begin + TIME + SLACK:
+            name, most = name_of(peer), 0
+            until(lambda: server.open_files() > server.files)
+            while server.open_files() > server.files and time.monotonic() < begin + TIME + SECONDS:
                 most = max(most, server.memory())
                 time.sleep(0.05)
             took = time.monotonic() - begin
+            sending.join()
             compare(f"{way}, {last}: the peer that reads nothing is dropped", server.files, server.open_files())
+            compare(f"{way}, {last}: not before its time: {took:.2f} s", True, took >= TIME)
         line = [name, "16", CIRCLE_LINE] if last == "refused" else [name, "0", "dropped, unread"]
         compare(f"{way}, {last}: its line", [line], server.refused(1))
         if last == "paced":
-            compare(f"{way}: {most} bytes are held for a peer that reads nothing", True, most < LARGE * REPLY / 4)
+            held = most - server.before
+            compare(f"{way}: {held} bytes are held for a peer that reads nothing after {count} calls", True, held < PACED)
         print(f"{way}, {last}: a peer that read nothing was dropped after {took:.1f} s, with {most / 1e6:.1f} MB held at most "
-              f"for replies of {LARGE * REPLY / 1e6:.0f} MB")
+              f"for {count} replies of {count * REPLY / 1e6:.0f} MB, and {server.resident('VmHWM') / 1024:.1f} MiB resident at most")
         server.survived(f"a peer that reads nothing, {last}")
+
+
+def late_reader(folder, way):
+    """A peer that reads its replies late, but in time, gets all of them from a paced server, which holds few."""
+    calls = subprocess.run([folder / "served", "frames", str(LARGE), "20000"], capture_output=True, check=True).stdout
+    with Server(folder, way, paced=1) as server:
+        with server.connect() as peer:
+            peer.sendall(calls)
+            most, end = 0, time.monotonic() + TIME / 2
+            while time.monotonic() < end:
+                most = max(most, server.memory() - server.before)
+                time.sleep(0.05)
+            compare(f"{way}: {most} bytes are held for a peer that reads late", True, most < PACED)
+            peer.shutdown(socket.SHUT_WR)
+            data, is_ended = all_of(peer)
+            compare(f"{way}: the replies to a peer that reads late", (LARGE + 1, True), (replies_of(data), is_ended))
+        server.survived("a peer that reads late")
 
 
 def count_of(data, *kinds):
@@ -351,15 +441,17 @@ def counted(server):
     server.memory()
     lines = server.lines("refused ")
     texts = [line.split(" ", 3)[3] for line in lines]
-    expected = {"open": 0, "turned away": 0, "late": SLOW, "unread": 0, "refused": len(lines)}
+    expected = {"open": 0, "turned away": 0, "late": 0, "idle": 0, "unread": 0, "refused": len(lines)}
     compare("the counters", expected, {name: number for name, number in server.counters.items() if name != "accepted"})
-    compare("late messages among the lines", SLOW, sum(text.endswith(", late") for text in texts))
+    compare("late messages among the lines", 0, sum(text.endswith(", late") for text in texts))
     compare("more connections are accepted than end by a refusal", True, server.counters["accepted"] > len(lines))
 
 
 def limited(folder):
     """Connections above the limit of capvet::Server are closed at once. When others have ended, new ones are served."""
     with Server(folder, "served", connections=5) as server:
+        # (its first clients may still have their places)
+        compare("places at first", 0, server.settled()["open"])
         peers = [server.connect() for _ in range(8)]
         ended = [all_of(peer)[1] for peer in peers[5:]]
         compare("connections above the limit are closed", [True] * 3, ended)
@@ -395,16 +487,22 @@ def attacked(folder, way):
     with Server(folder, way) as server:
         mutated(server, frames, valid)
         cut_and_large(server, valid)
-        slow(server)
         pipelined(server)
         endings(server, valid)
         if way == "served":
             counted(server)
+    slow(folder, way)
     idle(folder, way)
-    for last in ("refused", "ended", "paced"):
+    silent(folder, way)
+    for last in ("refused", "ended"):
         unread(folder, way, last)
+    for count in PACED_CALLS:
+        unread(folder, way, "paced", count)
     if way == "served":
         limited(folder)
+        of_all_kinds(folder, frames, valid)
+    else:
+        late_reader(folder, way)
 
 
 def main():

@@ -1,13 +1,18 @@
 #!/usr/bin/env python3
 """Vets messages before Cap'n Proto's own C++ library and the Rust crate `capnp` read them, by include/capvet/kj.h and
-by bindings/rust-capnp.
+by rust/capvet-capnp.
 
     before_readers.py PROGRAM ARCHIVE [--full]
 
 Many messages of fixed seeds are changed and vetted in process: 1,000, or 5,000 with --full. A refused one has to
 have the line of `capvet vet --strict --unamplified`. An accepted one is read under no more than the limits that it needs,
 and no reading may fail. The readers have to find the bytes, the pointers and the capabilities of the model in
-tests/readers.py. Peers, callers and callbacks of the streams misbehave too (tests/readers/faults.cpp).
+tests/readers.py. Of as many messages, and of as many in which pointers overlap, C++ has to say what `capvet check` and
+`capvet explain --exclusive` say. Peers, callers and callbacks of the streams misbehave too (tests/readers/faults.cpp).
+The server of examples/cpp goes on while nobody reads its lines.
+
+tests/readers/faulty.cpp has what may not compile: bytes that are taken for vetted ones, verdicts that nobody looks at, streams without
+a clock, and copies of what is borrowed. The service that docs/cpp.md begins with doesn't compile, or gives a warning, without any of its lines.
 
 As many changed messages of RPC are also sent to a server over `VettingStream`, on loopback, each on a connection of its
 own. Each has to be refused or accepted as the program does. No exception may come from reading pointers or from limits,
@@ -17,6 +22,7 @@ All of it runs again with the checks of memory that clang has, or else gcc, with
 runs with the checks of both, and valgrind counts the instructions of calls, with vetting and without. What isn't installed
 is said in a line of its own. The last line is 'N passed, M failed', and the status is 1 if a case failed.
 """
+import itertools
 import os
 import random
 import re
@@ -27,26 +33,38 @@ import struct
 import subprocess
 import sys
 import tempfile
-import time
 from collections import Counter
 from pathlib import Path
 
+import cargo
+import explain
+import made
+import model
+import needs
 import readers
 import trees
 from amount import IS_FULL, cases
-from harness import PROGRAM, TOP, compare, differ, ended, framed, run
+from harness import PROGRAM, TOP, compare, differ, ended, framed, instructions, outputs, run
 from install import make
 from library import tidy
 from needs import missing
+from paths import walked
 from readers import Tree
+from rpc import SECONDS, until
 
 CPP = TOP / "examples/cpp"
 STRICT = ("-std=c++17", "-Wall", "-Wextra", "-Wpedantic", "-Wconversion", "-Werror")
 CHECKED = ("-O0", "-g", "-fsanitize=address,undefined", "-fno-sanitize-recover=all")
+# (from clang 15 on the check is on by default, and KJ's callbacks of exceptions compare addresses of two frames)
+os.environ.setdefault("ASAN_OPTIONS", "detect_stack_use_after_return=0")
 CARGO = ("--offline", "--quiet")
 MANY = cases(1_000, full=5_000)  # changed messages, and as many connections
 # The most instructions of a call to a server with vetting, as a part of those without, for each kind of call.
-MOST = {"with": {"small": 1.03, "list": 1.15}, "served": {"small": 1.03, "list": 1.15}, "bytes": {"small": 1.07, "list": 1.15}}
+# (with `paced`, of which a small call takes 0.023, and waits that can be canceled)
+MOST = {"with": {"small": 1.05, "list": 1.15}, "served": {"small": 1.05, "list": 1.15}, "bytes": {"small": 1.13, "list": 1.15}}
+# The seconds for a message that the example's server gives its peers here: only a hang takes longer.
+PATIENCE = 600
+UNREAD_LINES = 2_000  # lines of the example's server that nobody reads
 # How many of the frames of valid calls come before a changed message.
 VALID = 9
 CALLED = """\
@@ -55,10 +73,10 @@ counted 7 and 8
 received 10000 rows, stored 10000
 failed: remote exception: this call always fails
 """
-PROGRAMS = ("rpc_server", "rpc_client", "vetted", "faults", "rpc")
+PROGRAMS = ("rpc_server", "rpc_client", "vetted", "faults", "rpc", "server")
 # What tests/readers/rpc.cpp prints of each stream that reads file descriptors. Its limits are at least those that are
 # asked for, mostly 10 words and 3 levels. A frame that is not accepted is libcapnp's where it reads the stream.
-REFUSED = "  onRefused {0}\n" + 3 * "  {0}; 0 open\n"
+REFUSED = "  onEnded {0}\n" + 3 * "  {0}; 0 open\n"
 FAILED = "  {0}; 2 open\n" + 2 * "  {0}; 0 open\n"
 READ = "  {}; 2 open\n  0 words, 0 files, limits {}; 0 open\n  ended; 0 open\n"
 STREAMS = {
@@ -68,6 +86,8 @@ STREAMS = {
     "default limits, two levels": READ.format("2 words, 2 files, limits 8388608 and 5", "8388608 and 4"),
     "two levels": READ.format("2 words, 2 files, limits 10 and 5", "10 and 3"),
     "two levels, four readings": READ.format("2 words, 2 files, limits 32 and 5", "10 and 3"),
+    "two levels, exclusive": READ.format("2 words, 2 files, limits 10 and 5", "10 and 3"),
+    "an overlap": REFUSED.format("refused Overlap at 0:2 pointers 3"),
     "cycle": REFUSED.format("refused DepthLimit at 0:0 pointers 65"),
     "one empty segment": REFUSED.format("refused NoRoot at 0:0 pointers 0"),
     "empty segments": REFUSED.format("refused NoRoot at 0:0 pointers 0"),
@@ -82,6 +102,8 @@ AROUND = {
         "To increase the limit on the receiving end, see capnp::ReaderOptions."),
     "512 segments": FAILED.format("expected segmentCount() < 512 [512 < 512]; Message has too many segments."),
 }
+# The text of libcapnp 1.5.0 for the last one, and that of 0.9.2 and 1.1.0.
+LATER_TEXT = "firstWord[0].get() < 511 [511 < 511]", "segmentCount() < 512 [512 < 512]"
 # The same of messages that end too early, and of those that fit into the space that is passed.
 HEAD = "  from 0 bytes on: 2 words; then ended; then ended;\n"
 PARTS_AROUND = HEAD + """\
@@ -96,7 +118,7 @@ LOST = "capvet: a read was canceled inside a message, so the next one is lost; "
 
 def after_message(text, length):
     """The line of a stream that ends with a refusal, after a message."""
-    return f"0 words; {text}; {text};  [{text}, {length} bytes]"
+    return f"0 words; {text}; {text};  [{text}, message 1 at 16, {length} bytes]"
 
 
 FAULTS = {
@@ -107,23 +129,51 @@ FAULTS = {
     "cut in the table": after_message("refused Truncated 24, cut", 16),
     "cut in a segment": after_message("refused Truncated 32, cut", 24),
     "a large circle": after_message(CYCLE, 24008),
+    "a circle after a large message": f"0 words; 0 words; {CYCLE};  [{CYCLE}, message 2 at 24024, 16 bytes]",
     "a large message, cut": after_message("refused Truncated 24008, cut", 20001),
-    "files": f"2 given, 2 open; 0 given, 0 open;  [{CYCLE}, 24008 bytes]",
+    "files": f"2 given, 2 open; 0 given, 0 open;  [{CYCLE}, message 1 at 16, 24008 bytes]",
     "the end": "0 words; end; end; ",
+    "shared objects": "0 words; 4 words; 4 words; ",
+    "shared objects, exclusive": "0 words; {0}; {0}; {0};   path /p1".format("refused Overlap at 0:2 pointers 3"),
     "a callback that throws": f"{CYCLE}; {CYCLE}; ",
+    "a callback with a name": f"{CYCLE}; 8 of {CYCLE}",
+    "a refusal that is kept": f"{CYCLE}, message 2 at 32, path of {3 * 64} letters, the bytes",
     "a callback that drops the stream": f"{CYCLE}; {CYCLE}, 0 letters of a peer",
     "limits": "throws; throws; throws; valid; ",
     "canceled reads": f"0 words; {LOST}{LOST}",
     "late in the head": after_message(LATE.format(8), 3),
     "late in a large message": after_message(LATE.format(65544), 30000),
     "slow": "0 words",
-    "unread": "dropped, unread; dropped, unread; end; dropped, unread; [dropped, unread, 0 bytes]",
-    "unread after a circle": f"{CYCLE}; dropped, unread; dropped, unread; {CYCLE}; [{CYCLE}, 16 bytes]",
+    "idle": "0 words; dropped, idle; dropped, idle;  [dropped, idle]",
+    "busy": "0 words; waits; dropped, idle, in time",
+    "idle, a callback that drops the stream": "dropped, idle; dropped, idle",
+    "unread": "dropped, unread; dropped, unread; end; dropped, unread; [dropped, unread]",
+    "unread after a circle": f"{CYCLE}; dropped, unread; dropped, unread; {CYCLE}; [{CYCLE}, message 0 at 0, 16 bytes]",
     "unread, a callback that drops the stream": "dropped, unread; dropped, unread",
     "paced": "0 words; waits; 0 words",
+    "paced, a late write": "0 words; 0 words; waits; waits; 0 words; 0 words",
     "mixed": "1200 messages",
 }
-ALONE = ("bytes alone: the same", "bytes in pieces of 1000: the same", "bytes in pieces of 30000: the same", "limits, server: throws")
+ALONE = ("bytes alone: the same", "bytes in pieces of 1000: the same", "bytes in pieces of 30000: the same",
+         "idle, in memory: dropped, idle; dropped, idle", "limits, server: throws",
+         "a /64: yes yes no no 2 turned away", "other networks: yes yes yes no 1 turned away",
+         "mapped addresses: yes yes no yes 1 turned away", "other sockets: yes yes yes 0 turned away")
+# What tests/readers/server.cpp prints.
+SERVED = """\
+a factory: 1, 2, 3; 3 made
+a factory that fails: not made; 2
+traces: [][a trace of 'this call fails']
+files: no file; a file; 
+files of a listener: a file
+connections without files: capvet: this connection can't pass file descriptors; 1 failed, 0 bytes to the peer
+calls before a refused message: return 0; return 1; return 3; abort: refused DepthLimit at 0:0 pointers 65; end
+"""
+# What the headers have for users. All else is in `detail`.
+PUBLIC = {"Cause", "Counters", "Difference", "Ended", "OnEnded", "Options", "Refusal", "Server", "ServerOptions", "StreamOptions", "Vetted",
+          "VettingCapabilityStream", "VettingIoStream", "VettingStream", "detail", "exceptionOf", "operator", "readerOptions", "tryVetted",
+          "tryVettedPrefix", "vetted", "vettedPrefix"}
+# A line of a service.
+NEEDED = re.compile(r"^  .*;\n", re.M)
 # A later KJ, as far as the headers can notice: KJ_IF_SOME in place of KJ_IF_MAYBE, and no Maybe of a null pointer.
 LATER_KJ = """\
 #include <capnp/rpc-twoparty.h>
@@ -194,9 +244,44 @@ def vetted(name, command, count, folder):
     print(f"{name}: {found['sum']} accepted and read, {found['refused']} refused")
 
 
+def form_of(said, frame):
+    """What is said of an accepted message: that it is canonical, or its first difference, as tests/model.py has it."""
+    if said == "canonical":
+        return "canonical\n"
+    message, _ = model.unframed(frame, model.Limits())
+    reason, segment, word, number = model.difference(message, model.vetted(message, 65536, 64))
+    path = None if reason in ("Segments", "Trailing") else next(itertools.islice(walked(message, 64), number - 1, None))[1]
+    text = "" if path is None else "".join(f"/{'pi'[kind]}{step}" for kind, step in path) or "/"
+    return f"not canonical: {reason} at {segment}:{word} pointers {number} path {text}\n"
+
+
+def said(name, program, count, folder):
+    """Changed messages and overlaps through `vetted lines`: what the program says of them by `check`, or by `explain --exclusive`. Of
+    those that aren't canonical it says the first difference, as the model does."""
+    chance, found = random.Random("said"), Counter()
+    messages = [framed(*it) for it in changed(samples(), count, 3)] + [made.shared(chance) for _ in range(count)]
+    messages += [framed(path.read_bytes()) for path in (TOP / "examples/canonical").iterdir()]
+    options = ("--strict", "--unamplified", "--words", 65536, folder / "stream")
+    (folder / "stream").write_bytes(b"".join(messages))
+    checked = run([PROGRAM, "check", *options])[0].splitlines()
+    expected = []
+    explained = explain.of_libraries(run([PROGRAM, "explain", "--exclusive", *options])[0])
+    for frame, (verdict, lines), form in zip(messages, explained, checked):
+        is_accepted, form = verdict.startswith("accepted"), form.partition(": ")[2]
+        expected.append(form_of(form, frame) if is_accepted else f"{verdict}\n{lines}")
+        found[form if is_accepted else " ".join(verdict.split()[:2])] += 1
+    got, status = run([program, "lines", with_lengths(messages, folder / "messages")])
+    compare(f"{name}, status", 0, status)
+    compare(f"{name}, messages", len(messages), len(expected))
+    differ(name, "".join(expected).splitlines(), got.splitlines())
+    few = {it: number for it in ("canonical", "not canonical", "refused Overlap") if (number := found[it]) < 3}
+    compare(f"{name}, each of these three times", {}, few)
+    print(f"{name}: {found['refused Overlap']} overlaps among {len(messages)} messages, {found['canonical']} canonical")
+
+
 def attacked(name, program, count, folder):
     """Changed messages of RPC to a server on loopback."""
-    record = subprocess.run([program, "record"], capture_output=True, timeout=60).stdout
+    record = subprocess.run([program, "record"], capture_output=True, timeout=600).stdout
     frames = [framed(*message) for message in trees.messages(record)]
     compare(f"{name}, frames of valid calls", True, len(frames) > VALID)
     (folder / "valid").write_bytes(b"".join(frames[:VALID]))
@@ -226,7 +311,7 @@ def cuts(*stages):
     text = HEAD
     for start, end, least in stages:
         reported = f"disconnected: refused Truncated {least}, cut"
-        line = f"  onRefused refused Truncated {least}, cut\n"
+        line = f"  onEnded refused Truncated {least}, cut\n"
         text += line + f"  from {start} bytes on: 2 words; then {reported}; then {reported};\n" + line * (end - start - 1)
     return text
 
@@ -249,18 +334,11 @@ def expected_of_streams():
 
 def streams(name, program):
     text, status = run([program, "streams"])
+    text = text.replace(*LATER_TEXT)
     compare(f"{name}, status", 0, status)
     for part, expected in expected_of_streams().items():
         got = re.search(rf"^{part}\n((?:  .*\n)*)", text, re.M)
         compare(f"{name}, {part}", expected, got and got[1])
-
-
-def instructions(command):
-    """How many instructions a command takes, by valgrind."""
-    text, status = run(["valgrind", "--tool=callgrind", "--callgrind-out-file=/dev/null", *command])
-    compare(f"{command[1]} under valgrind", 0, status)
-    found = re.search(r"Collected : (\d+)", text)
-    return int(found[1]) if found else 0
 
 
 def cost(program):
@@ -282,30 +360,28 @@ def cost(program):
 
 def faults(name, command):
     """Streams whose peers, callers and callbacks misbehave."""
-    ran = subprocess.run([str(it) for it in command], capture_output=True, text=True, timeout=600)
+    ran = subprocess.run([str(it) for it in command], capture_output=True, text=True, timeout=3600)
     expected = [f"{part}, {kind}: {line}" for part, line in FAULTS.items() for kind in ("messages", "bytes", "bytes and files")]
     # (a stream of bytes alone has no files)
     expected = [line.replace("2 given, 2 open", "0 given, 0 open") if line.startswith("files, bytes:") else line for line in expected]
     compare(f"{name}, status", 0, ran.returncode)
     differ(name, [*expected, *ALONE], ran.stdout.splitlines())
-    compare(f"{name}, exceptions of callbacks are logged", 3, ran.stderr.count("onRefused threw"))
+    compare(f"{name}, exceptions of callbacks are logged", 3, ran.stderr.count("onEnded threw"))
 
 
 class Example:
     """The example's server, with the lines that it prints, in a process that may have few descriptors."""
 
-    def __init__(self, folder, *words, descriptors=1024):
+    def __init__(self, folder, descriptors=1024):
         self.folder, self.path = folder, folder / "lines"
         limits = (descriptors, resource.getrlimit(resource.RLIMIT_NOFILE)[1])
         with open(self.path, "w") as lines, open(folder / "errors", "w") as errors:
-            self.process = subprocess.Popen([folder / "rpc_server", "127.0.0.1:0", *words], stdout=lines, stderr=errors,
+            self.process = subprocess.Popen([folder / "rpc_server", "127.0.0.1:0", str(PATIENCE)], stdout=lines, stderr=errors,
                                             stdin=subprocess.DEVNULL,
                                             preexec_fn=lambda: resource.setrlimit(resource.RLIMIT_NOFILE, limits))
-        for _ in range(500):
-            if self.path.read_text().endswith("\n"):
-                break
-            time.sleep(0.02)
+        until(lambda: self.path.read_text().endswith("\n"))
         self.port = int(self.path.read_text().split()[0])
+        self.files = self.open_files()
 
     def __enter__(self):
         return self
@@ -315,14 +391,29 @@ class Example:
         self.process.wait()
 
     def connect(self):
-        return socket.create_connection(("127.0.0.1", self.port), timeout=60)
+        return socket.create_connection(("127.0.0.1", self.port), timeout=SECONDS)
 
     def call(self, name):
         """The example's client gets its results."""
-        compare(name, (CALLED, 0), run([self.folder / "rpc_client", f"127.0.0.1:{self.port}"], 60))
+        compare(name, (CALLED, 0), run([self.folder / "rpc_client", f"127.0.0.1:{self.port}"], SECONDS))
 
-    def lines(self):
+    def open_files(self):
+        return len(os.listdir(f"/proc/{self.process.pid}/fd"))
+
+    def forgets(self, peers):
+        """Whether it closes the connections of peers that end them."""
+        for peer in peers:
+            peer.close()
+        return until(lambda: self.open_files() <= self.files)
+
+    def lines(self, count):
+        """Its lines, once there are so many."""
+        until(lambda: self.path.read_text().count("\n") > count)
         return self.path.read_text().splitlines()[1:]
+
+    def says(self, text):
+        """Whether it says something on its standard error."""
+        return until(lambda: text in (self.folder / "errors").read_text())
 
 
 def example(folder):
@@ -340,44 +431,157 @@ def example(folder):
             peer.sendall(bytes(5))
         server.call("rpc_client, after a refused message")
         compare("the lines of rpc_server", [f"{address} {line} path {'/p0' * 32}", f"{other} refused Truncated 8, cut"],
-                server.lines())
-        text, status = run([folder / "rpc_server", f"127.0.0.1:{server.port}"], 60)
+                server.lines(2))
+        text, status = run([folder / "rpc_server", f"127.0.0.1:{server.port}"], SECONDS)
         compare("an address in use", (True, 3), ("Address already in use" in text, status))
     with Example(folder, descriptors=40) as server:
         peers = [server.connect() for _ in range(60)]
-        time.sleep(0.5)
-        for peer in peers:
-            peer.close()
+        compare("the lack of descriptors is said", True, server.says("Too many open files"))
+        compare("connections are closed after a lack of descriptors", True, server.forgets(peers))
         server.call("rpc_client, after a lack of descriptors")
-        compare("the lack of descriptors is said", True, "Too many open files" in (folder / "errors").read_text())
     with Example(folder) as server:
         peers = [server.connect() for _ in range(110)]
         ended = [peer for peer in peers[100:] if peer.recv(1) == b""]
         compare("connections above the limit of an address", 10, len(ended))
-        for peer in peers:
-            peer.close()
+        compare("connections are closed, also those above the limit", True, server.forgets(peers))
         server.call("rpc_client, after too many connections")
 
 
+def ended_by_server(port, data):
+    """Whether the server at a port ends a connection after these bytes."""
+    with socket.create_connection(("127.0.0.1", port), timeout=SECONDS) as peer:
+        try:
+            peer.sendall(data)
+            while peer.recv(4096):
+                pass
+        except TimeoutError:
+            return False
+        except OSError:
+            pass
+        return True
+
+
+def unread_lines(folder):
+    """The example's server goes on while nobody reads its lines, and says how many it has dropped. It goes on without a reader
+    too."""
+    pipe, cycle = subprocess.PIPE, (TOP / "examples/cycle.bin").read_bytes()
+    words = [folder / "rpc_server", "127.0.0.1:0", str(PATIENCE)]
+    with subprocess.Popen(words, stdout=pipe, stderr=pipe, stdin=subprocess.DEVNULL, text=True) as server:
+        port = int(server.stdout.readline())
+        client = ["timeout", str(SECONDS), folder / "rpc_client", f"127.0.0.1:{port}"]
+        ended_ones = list(itertools.takewhile(bool, (ended_by_server(port, cycle) for _ in range(UNREAD_LINES))))
+        compare("refused messages while lines are unread", UNREAD_LINES, len(ended_ones))
+        if len(ended_ones) == UNREAD_LINES:
+            compare("rpc_client, while lines are unread", (CALLED, 0), run(client))
+            # (a pipe is full with fewer lines)
+            read = [server.stdout.readline() for _ in range(UNREAD_LINES // 10)]
+            compare("a refused message when lines are read", True, ended_by_server(port, cycle))
+            while (line := server.stdout.readline()) and "dropped" not in line:
+                read.append(line)
+            dropped = re.fullmatch(r"(\d+) lines were dropped\n", line)
+            compare("lines that were read and dropped", UNREAD_LINES, len(read) + int(dropped[1] if dropped else 0))
+            are_whole = all("refused DepthLimit" in it for it in read)
+            compare("lines that were read are whole", (True, True), (are_whole, len(read) > UNREAD_LINES // 10))
+            server.stdout.close()
+            server.stderr.close()
+            compare("refused messages without a reader", [True] * 10, [ended_by_server(port, cycle) for _ in range(10)])
+            compare("rpc_client, without a reader of lines", (CALLED, 0), run(client))
+        server.kill()
+
+
+def coroutines(folder, link):
+    """The example with coroutines sends messages back, and a refused one ends its connection. (Debian builds libcapnp
+    1.1.0 without coroutines)"""
+    (folder / "probe.cpp").write_text("#include <kj/async.h>\n#if !KJ_HAS_COROUTINE\n#error none\n#endif\n")
+    for compiler in filter(shutil.which, ("c++", "clang++")):
+        if run([compiler, "-std=c++20", "-fsyntax-only", link[0], folder / "probe.cpp"])[1] != 0:
+            print(f"the example with coroutines, by {compiler}: it or its KJ has none")
+            continue
+        program = folder / f"coroutine-{compiler}"
+        made = run([compiler, *STRICT, "-std=c++20", "-O1", folder / "coroutine.cpp", *link, "-o", program])
+        if fault := re.search("internal compiler error|undefined reference to `kj::_::CoroutineBase", made[0]):
+            print(f"the example with coroutines, by {compiler}: {fault[0]}")
+            continue
+        compare(f"{compiler} coroutine.cpp", ("", 0), made)
+        if not made[1]:
+            echoed(folder, program)
+
+
+def echoed(folder, program):
+    """What the example with coroutines sends back."""
+    sent = b"".join((TOP / f"examples/{name}.bin").read_bytes() for name in ("contacts", "stream-of-four", "contacts-many-segments"))
+    pipe, words = subprocess.PIPE, [program, "127.0.0.1:0"]
+    with subprocess.Popen(words, stdout=pipe, stderr=pipe, stdin=subprocess.DEVNULL, text=True) as server:
+        port = int(server.stdout.readline())
+        for data, is_whole in ((sent, True), (sent + (TOP / "examples/cycle.bin").read_bytes() + sent, False), (sent, True)):
+            with socket.create_connection(("127.0.0.1", port), timeout=SECONDS) as peer:
+                got = b""
+                try:
+                    peer.sendall(data)
+                    peer.shutdown(socket.SHUT_WR)
+                    while part := peer.recv(65536):
+                        got += part
+                except OSError:
+                    pass
+            if is_whole:
+                canonical = [outputs([PROGRAM, "canon"], text)[::2] for text in (sent, got)]
+                compare(f"{program.name}, messages that are sent back", *canonical)
+        server.kill()
+        compare(f"{program.name}, the refusal", "refused DepthLimit at 0:0 pointers 65\n", server.stderr.read())
+
+
+# What projects for CMake look for, in order, and what makes CMake fail. The package of libcapnp that Autotools install can't be
+# loaded twice.
+FOUND_BY_CMAKE = {
+    "capvet": (("capvet",), None),
+    "libcapnp, then capvet": (("CapnProto", "capvet"), None),
+    "capvet twice": (("capvet", "capvet"), None),
+    "capvet, then libcapnp": (("capvet", "CapnProto"), "another target with the same name already exists"),
+}
+FIND = {"capvet": "find_package(capvet 2.0 REQUIRED COMPONENTS kj)\n", "CapnProto": "find_package(CapnProto REQUIRED)\n"}
+WITHOUT_C = "libatomic not found"
+PROJECT = """cmake_minimum_required(VERSION {least})
+project(test {languages})
+{found}if(TARGET capvet::kj)
+  find_package(capvet 3.0 QUIET)
+  if(capvet_FOUND)
+    message(FATAL_ERROR "another major version is compatible")
+  endif()
+  include_directories(${{CMAKE_CURRENT_BINARY_DIR}})
+  capnp_generate_cpp(sources headers calculator.capnp)
+  add_executable(rpc_client rpc_client.cpp ${{sources}})
+  target_link_libraries(rpc_client capvet::kj)
+endif()
+"""
+
+
 def by_cmake(folder, prefix):
-    """The package for CMake is found, and its target builds the example."""
+    """The package for CMake is found with that of libcapnp, and its target builds the example."""
     if missing("the package for CMake", "cmake"):
         return
+    # (the package also serves a project that asks for an older CMake than it uses. CMake 4 serves none from before 3.5)
+    least = "3.0" if re.search(r"cmake version [23]\.", run(["cmake", "--version"])[0]) else "3.5"
     project = folder / "project"
     project.mkdir()
-    # (the package also serves a project that asks for an older CMake than it uses)
-    (project / "CMakeLists.txt").write_text(f"""cmake_minimum_required(VERSION 3.0)
-project(test C CXX)
-find_package(capvet 1.0 REQUIRED COMPONENTS kj)
-find_package(capvet 2.0 QUIET)
-if(capvet_FOUND)
-  message(FATAL_ERROR "another major version is compatible")
-endif()
-add_executable(rpc_client {folder}/rpc_client.cpp {folder}/calculator.capnp.c++)
-target_link_libraries(rpc_client capvet::kj)
-""")
-    made = run(["cmake", "-S", project, "-B", project / "build", f"-DCMAKE_PREFIX_PATH={prefix}"])
-    compare("cmake", (0, ""), (made[1], made[0] if made[1] else ""))
+    for name in ("rpc_client.cpp", "calculator.capnp", "calculator.h"):
+        shutil.copy(folder / name, project)
+
+    def configured(languages, packages):
+        shutil.rmtree(project / "build", ignore_errors=True)
+        text = PROJECT.format(least=least, languages=languages, found="".join(FIND[it] for it in packages))
+        (project / "CMakeLists.txt").write_text(text)
+        return run(["cmake", "-S", project, "-B", project / "build", f"-DCMAKE_PREFIX_PATH={prefix}"])
+
+    # (up to libcapnp 1.1.0 its package looks for a library by a compiler for C)
+    text, _ = configured("CXX", ["CapnProto"])
+    needs_c = WITHOUT_C in text
+    for order, (packages, error) in FOUND_BY_CMAKE.items():
+        for languages in ("C CXX", "CXX"):
+            expected = WITHOUT_C if needs_c and languages == "CXX" else error
+            text, status = configured(languages, packages)
+            compare(f"cmake, {languages}: {order}", (expected is not None, ""),
+                    (status != 0, "" if (expected in text if expected else status == 0) else text))
+    configured("C CXX", ["CapnProto", "capvet"])
     built = run(["cmake", "--build", project / "build"])
     compare("cmake --build", (0, ""), (built[1], built[0] if built[1] else ""))
 
@@ -417,6 +621,47 @@ def headers(folder, link):
         compare(f"{compiler}, as a later KJ", ("", 0), run(command))
 
 
+def faulty(link):
+    """What may not compile: each marked line has an error with the words of its mark, and no other line has one."""
+    source = TOP / "tests/readers/faulty.cpp"
+    marks = {number: mark[1] for number, line in enumerate(source.read_text().splitlines(), 1) if (mark := re.search("// error: (.*)", line))}
+    compare("faulty.cpp has marks", True, len(marks) > 20)
+    for compiler, all_errors in (("c++", "-fmax-errors=0"), ("clang++", "-ferror-limit=0")):
+        if missing(f"faulty.cpp by {compiler}", compiler):
+            continue
+        text, _ = run([compiler, "-std=c++17", "-Werror=unused-result", all_errors, "-fsyntax-only", link[0], source])
+        found = {}
+        for number, said in re.findall(r"faulty\.cpp:(\d+):\d+: error: (.*)", text):
+            found.setdefault(int(number), []).append(said)
+        compare(f"{compiler} faulty.cpp, lines with errors", sorted(marks), sorted(found))
+        for number, mark in marks.items():
+            said = found.get(number, [])
+            compare(f"{compiler} faulty.cpp:{number}: {mark}", [], [] if any(re.search(mark, it) for it in said) else said or ["compiles"])
+
+
+def service(folder, link):
+    """The service that docs/cpp.md begins with compiles without a warning, and so not without any of its lines. (clang
+    takes the least time)"""
+    text = re.search(r"^```cpp\n(.*?)^```$", (TOP / "docs/cpp.md").read_text(), re.M | re.S)[1]
+    compiler = next(filter(shutil.which, ("clang++", "c++")))
+    needed = list(NEEDED.finditer(text))
+    expected = ["nothing", "an error", "a warning"]
+    compare("the lines of the service of docs/cpp.md", len(expected) - 1, len(needed))
+    for line in (None, *needed):
+        left_out = line[0].strip() if line else "nothing"
+        (folder / "service.cpp").write_text(text[:line.start()] + text[line.end():] if line else text)
+        text_of, status = run([compiler, "-std=c++17", "-fsyntax-only", "-I", folder, link[0], folder / "service.cpp"])
+        said = "an error" if status else "a warning" if "warning: " in text_of else "nothing"
+        compare(f"the service of docs/cpp.md without {left_out}", expected.pop(0), said)
+
+
+def public_names(folder, *programs):
+    """All names of the headers in these programs are for users, or in `detail`. (KJ_STRINGIFY makes an operator)"""
+    names = set(re.findall(r"\bcapvet::v\d+_\d+_\d+::(\w+)", "".join(run(["nm", "-C", folder / name])[0] for name in programs)))
+    compare("names of the headers that aren't for users", set(), names - PUBLIC)
+    compare("names of the headers", set(), {"Refusal", "Server", "VettingStream", "detail"} - names)
+
+
 def under_valgrind(folder):
     """The archive and libcapnp too, as they are, with valgrind's checks of memory."""
     if missing("libcapnp with checks of memory", "valgrind"):
@@ -435,62 +680,73 @@ def from_cplusplus(folder, prefix, environment, count):
         shutil.copy(path, folder)
     made = run(["capnp", "compile", "-oc++", "calculator.capnp"], cwd=folder, env={**os.environ, "PWD": str(folder)})
     compare("capnp compile", ("", 0), made)
+    shutil.copy(TOP / "tests/readers/service.capnp", folder)
+    made = run(["capnp", "compile", "-oc++", "service.capnp"], cwd=folder, env={**os.environ, "PWD": str(folder)})
+    compare("capnp compile of the tests", ("", 0), made)
     made = folder / "calculator.capnp.c++"
+    others = {"vetted": [], "faults": [], "server": [folder / "service.capnp.c++"]}
     sources = {"rpc_server": folder / "rpc_server.cpp", "rpc_client": folder / "rpc_client.cpp",
-               **{name: TOP / f"tests/readers/{name}.cpp" for name in ("vetted", "faults", "rpc")}}
-    for page in ("docs/in-process.md",):
+               **{name: TOP / f"tests/readers/{name}.cpp" for name in ("vetted", "faults", "rpc", "server")}}
+    shutil.copy(TOP / "examples/contacts.capnp", folder)
+    compiled = run(["capnp", "compile", "-oc++", "contacts.capnp"], cwd=folder, env={**os.environ, "PWD": str(folder)})
+    compare("capnp compile of contacts.capnp", ("", 0), compiled)
+    for page in ("docs/cpp.md",):
         sources[page] = folder / f"{Path(page).stem}.cpp"
         sources[page].write_text("".join(re.findall(r"^```cpp\n(.*?)^```$", (TOP / page).read_text(), re.M | re.S)))
         compare(f"{page} has a block of C++", True, "capvet" in sources[page].read_text())
     for name, source in sources.items():
-        files = [source] if name in ("vetted", "faults") else [source, made]
+        files = [source, *others.get(name, [made])]
         output = ["-o", folder / name] if name in PROGRAMS else ["-fsyntax-only"]
         compare(f"c++ {name}", ("", 0), run(["c++", *STRICT, "-O1", "-I", folder, *files, *link, *output]))
         if not missing(f"{name} by clang++", "clang++"):
             command = ["clang++", *STRICT, "-fsyntax-only", "-I", folder, *link[:1], source]
             compare(f"clang++ {name}", ("", 0), run(command))
     headers(folder, link)
+    faulty(link)
+    service(folder, link)
+    public_names(folder, "vetted", "faults", "server")
     suffixes = {"": count}
     for compiler in checkers():
         suffix = f"-checked-{compiler}"
         suffixes[suffix] = count // 10
-        for name in ("vetted", "faults", "rpc"):
-            files = [sources[name], made] if name == "rpc" else [sources[name]]
+        for name in ("vetted", "faults", "rpc", "server"):
+            files = [sources[name], *others.get(name, [made])]
             command = [compiler, "-std=c++17", *CHECKED, "-I", folder, *files, *link, "-o", folder / f"{name}{suffix}"]
             compare(f"{compiler} {name}.cpp, checked", ("", 0), run(command))
     for suffix, many in suffixes.items():
         vetted(f"vetted{suffix}", [folder / f"vetted{suffix}"], many, folder)
+        said(f"vetted{suffix} lines", folder / f"vetted{suffix}", many, folder)
         faults(f"faults{suffix}", [folder / f"faults{suffix}"])
         streams(f"rpc{suffix} streams", folder / f"rpc{suffix}")
+        compare(f"server{suffix}", (SERVED, 0), run([folder / f"server{suffix}", folder / f"socket{suffix}"], 600))
         attacked(f"rpc{suffix}", folder / f"rpc{suffix}", many, folder)
     if IS_FULL:
         cost(folder / "rpc")
         under_valgrind(folder)
     example(folder)
+    unread_lines(folder)
+    coroutines(folder, link)
     by_cmake(folder, prefix)
 
 
-def from_rust(folder, environment, count):
-    if missing("messages before the crate capnp", "cargo", "rustc", "crate-capnp"):
+def from_rust(folder, count):
+    if missing("messages before the crate capnp", "cargo", "rustc", "crates", "crate-capnp"):
         return
-    environment = {**environment, "CARGO_TARGET_DIR": str(folder / "target")}
-    environment.pop("CAPVET_LIB_DIR", None)
-    for part in ("bindings", "examples", "include", "tests/readers"):
-        shutil.copytree(TOP / part, folder / "copy" / part, ignore=shutil.ignore_patterns("target", "Cargo.lock"))
-    shutil.copytree(TOP / "tests/readers/rust/.cargo", folder / "copy/.cargo")
-    crate = folder / "copy/bindings/rust-capnp"
+    environment = cargo.environment(folder)
+    cargo.copied(folder / "copy", "rust", "examples", "tests/readers")
+    crate = folder / "copy/rust/capvet-capnp" / needs.capnp()
     tidy(crate, environment)
     tidy(folder / "copy/examples/rust/read", environment)
     for words in (["test"], ["doc", "--no-deps"]):
-        text, status = run(["cargo", *words, *CARGO], cwd=crate, env={**environment, "RUSTDOCFLAGS": "-D warnings"})
-        compare(f"cargo {words[0]} in bindings/rust-capnp", (0, ""), (status, text if status else ""))
+        text, status = run(["cargo", *words, *CARGO], cwd=crate, env=environment)
+        compare(f"cargo {words[0]} in rust/capvet-capnp", (0, ""), (status, text if status else ""))
     rust_vetted = folder / "copy/tests/readers/rust-vetted"
     text, status = run(["cargo", "build", "--release", *CARGO], cwd=rust_vetted, env=environment)
     compare("cargo build of rust-vetted", ("", 0), (text, status))
     vetted("reader, in Rust", [folder / "target/release/vetted"], count, folder)
-    blocks = re.findall(r"^```rust\n(.*?)^```$", (TOP / "docs/in-process.md").read_text(), re.M | re.S)
+    blocks = re.findall(r"^```rust\n(.*?)^```$", (TOP / "docs/rust.md").read_text(), re.M | re.S)
     blocks = [block for block in blocks if "capvet_capnp::" in block]
-    compare("docs/in-process.md has a block with capvet_capnp", 1, len(blocks))
+    compare("docs/rust.md has a block with capvet_capnp", 1, len(blocks))
     (folder / "copy/examples/rust/read/src/bin").mkdir()
     guide = folder / "copy/examples/rust/read/src/bin/guide.rs"
     guide.write_text("#![allow(dead_code)]\n" + "".join(blocks) + "fn main() {}\n")
@@ -508,7 +764,7 @@ def main():
         compare("make install", ("", 0), make("install", scratch, f"PREFIX={prefix}"))
         environment = {**os.environ, "PKG_CONFIG_PATH": str(prefix / "lib/pkgconfig")}
         from_cplusplus(folder, prefix, environment, MANY)
-        from_rust(folder, environment, MANY)
+        from_rust(folder, MANY)
     return ended()
 
 

@@ -7,7 +7,7 @@ import shutil
 import subprocess
 import tempfile
 
-SECONDS = 60
+SECONDS = 300
 """How long the browser may take for an answer, also beside other work."""
 
 
@@ -89,7 +89,7 @@ class Browser:
         return self.value(f"document.getElementById({name!r}).textContent")
 
     def press(self, key, text=""):
-        code = {"Tab": 9, "Home": 36, "End": 35, "ArrowLeft": 37, "ArrowUp": 38, "ArrowRight": 39, "ArrowDown": 40}.get(key, 0)
+        code = {"Tab": 9, "Enter": 13, "Escape": 27, "Home": 36, "End": 35, "ArrowLeft": 37, "ArrowUp": 38, "ArrowRight": 39, "ArrowDown": 40}.get(key, 0)
         self.call("Input.dispatchKeyEvent", type="keyDown", key=key, code=key, windowsVirtualKeyCode=code,
                   **(dict(text=text) if text else {}))
         self.call("Input.dispatchKeyEvent", type="keyUp", key=key, code=key, windowsVirtualKeyCode=code)

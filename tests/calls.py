@@ -50,7 +50,7 @@ from amount import cases
 from harness import (ARCHIVE, PROGRAM, TOP, VALGRIND, compare, ended, expect, framed, outputs, over_file, run, under_valgrind,
                      with_lengths)
 from made import changed, made_up, samples
-from model import Limits, unframed
+from model import DIFFERENCES, Limits, unframed
 from needs import missing
 from unpacking import changed_text, made_text, next_word
 
@@ -94,10 +94,11 @@ def expected_symbols(archive):
     own = {line.split()[-1] for line in lines if " T " in line}
     granted = {"memcpy", "memmove", "memset"} | ({"abort", "memcmp"} if archive.parent.name == "cargo" else set())
     expect("what the archive needs", undefined - own <= granted, str(undefined - own))
-    for name in ("capvet_version", "capvet_frame", "capvet_vet", "capvet_vet_exclusive", "capvet_is_canonical",
+    for name in ("capvet_version", "capvet_frame", "capvet_vet", "capvet_vet_exclusive", "capvet_check_canonical",
+                 "capvet_check_canonical_words", "capvet_first_difference", "capvet_reader_words", "capvet_reader_nesting",
                  "capvet_canonical", "capvet_get", "capvet_get_range", "capvet_pointer_path", "capvet_earlier_pointer",
-                 "capvet_explain", "capvet_pack", "capvet_unpack", "capvet_pack_message", "capvet_unpack_message",
-                 "capvet_limits_default", "capvet_abi_1", "capvet_segment_at", "capvet_vet_segments", "capvet_frame_bound",
+                 "capvet_explain", "capvet_explain_overlap", "capvet_pack_words", "capvet_unpack_words", "capvet_pack_message", "capvet_unpack_message",
+                 "capvet_limits_default", "capvet_abi_2", "capvet_segments", "capvet_vet_segments", "capvet_frame_bound",
                  "capvet_marks_bound", "capvet_canonical_bound", "capvet_pack_bound"):
         expect(f"the archive has {name}", name in own)
 
@@ -110,7 +111,7 @@ def linked(folder, compiler, archive):
     clean(f"the link check, by {compiler}", compiler, *WARN, source, archive, "-o", folder / "check")
     text, status = run([compiler, *WARN, source, other, "-o", folder / "check"])
     expect(f"the link check with another library, by {compiler}",
-           status != 0 and "undefined reference" in text and "capvet_abi_1" in text, text)
+           status != 0 and "undefined reference" in text and "capvet_abi_2" in text, text)
 
 
 def standards(compiler):
@@ -125,8 +126,11 @@ def named(folder, compiler, known, archive, program):
         built = compiled(folder, "names", compiler, standard, archive)
         if built is not None:
             text, status = run([built])
-            names = {int(number): name for number, name in (line.split() for line in text.splitlines())}
+            names, differences = {}, {}
+            for what, number, name in (line.split() for line in text.splitlines()):
+                {"answer": names, "difference": differences}[what][int(number)] = name
             compare(f"the names of answers, by {compiler} -std={standard}", (header.names(), 0), (names, status))
+            compare(f"the names of differences, by {compiler} -std={standard}", dict(enumerate(DIFFERENCES, 1)), differences)
     words, (twice, cycle) = set(), ((TOP / "examples" / name).read_bytes() for name in ("shared.bin", "cycle.bin"))
     stream = b"".join(framed(text) for text, _ in strict.CASES) + strict.many(512) + twice + cycle
     for option in "--strict", "--exclusive":

@@ -1,10 +1,10 @@
 #!/usr/bin/env python3
 """Tests the library for C that cargo builds, of the text without contracts: build/cargo.
 
-    capvet_c.py [PROGRAM] [--full]
+    capvet_c.py
 
-`packaging/capvet_c.py` builds it. All of calls.py runs over its archive, beside PROGRAM, and stack.py measures its calls.
-The shared library exports the calls of the header at the version node of the proved one, has its name, and needs the C library alone.
+`packaging/by_cargo.py` builds it. The calls are tested by the scripts of `make test`, which run over its archive. The shared library
+exports the calls of the header at the version node of the proved one, has its name, and needs the C library alone.
 
 - A C program links the archive beside one of another crate without std. Two such archives that rustc made don't link so.
 - A program in Rust links the archive by two crates.
@@ -19,11 +19,10 @@ import sys
 import tempfile
 from pathlib import Path
 
-import amount
-from harness import PROGRAM, TOP, compare, count, ended, expect, run
+from cargo import environment
+from harness import TOP, compare, count, ended, expect, run
 from header import calls
 from needs import missing
-from plain import environment
 from processors import OLD
 
 BUILT, CRATE = TOP / "build/cargo", TOP / "rust/capvet-c"
@@ -63,33 +62,23 @@ OVER_BOTH = 'fn main() { println!("{:?} {:?}", first::sizes(), second::sizes());
 def built(folder):
     """Whether it is built, by the crates and the Rust that plain.py takes."""
     variables = {**environment(folder), "CARGO_TARGET_DIR": str(BUILT / "target")}
-    said, status = run([sys.executable, "packaging/capvet_c.py"], cwd=TOP, env=variables)
-    expect("packaging/capvet_c.py", status == 0, said)
+    said, status = run([sys.executable, "packaging/by_cargo.py", "--library"], cwd=TOP, env=variables)
+    expect("packaging/by_cargo.py", status == 0, said)
     return status == 0
-
-
-def script(name, *words):
-    """Runs a script over the archive, and counts its cases."""
-    said, status = run([sys.executable, f"tests/{name}", *words, *(["--full"] if amount.IS_FULL else [])], cwd=TOP, timeout=36_000)
-    found = re.search(r"^(\d+) passed, (\d+) failed$", said, re.M)
-    print("".join(f"{line}\n" for line in said.splitlines()[:-1]), end="", flush=True)
-    expect(f"{name} ends with its cases", found and status in (0, 1), said)
-    if found:
-        count(int(found[1]), int(found[2]))
 
 
 def exports():
     """What the shared library exports and needs, and its name."""
-    library = BUILT / "libcapvet.so.1"
+    library = BUILT / "libcapvet.so.2"
     symbols = run(["readelf", "--dyn-syms", "--wide", library])[0]
     found = re.findall(r" (\w+) +DEFAULT +(\w+) (\S+)$", symbols, re.M)
     defined = {name for _, section, name in found if section not in ("UND", "ABS")}
-    compare("the exports", {f"{name}@@CAPVET_1" for name in calls()}, defined)
+    compare("the exports", {f"{name}@@CAPVET_2" for name in calls()}, defined)
     needed = {name.split("@")[0] for bind, section, name in found if section == "UND"}
     weak = {"__cxa_finalize", "__gmon_start__", "_ITM_deregisterTMCloneTable", "_ITM_registerTMCloneTable"}
     expect("what it needs of the C library", needed - weak <= {"abort", "memcmp", "memcpy", "memmove", "memset"}, needed)
     dynamic = run(["readelf", "--dynamic", "--wide", library])[0]
-    compare("its name", ["libcapvet.so.1"], re.findall(r"\(SONAME\).*\[(.*)\]", dynamic))
+    compare("its name", ["libcapvet.so.2"], re.findall(r"\(SONAME\).*\[(.*)\]", dynamic))
     compare("the libraries that it needs", ["libc.so.6"], re.findall(r"\(NEEDED\).*\[(.*)\]", dynamic))
     compare("it has no executable stack", ["RW"], re.findall(r"GNU_STACK(?: +0x0+){5} (\w+) ", run(["readelf", "-lW", library])[0]))
     members = run(["ar", "t", BUILT / "libcapvet.a"])[0].split()
@@ -98,7 +87,7 @@ def exports():
     symbols = run(["nm", "--defined-only", "--extern-only", BUILT / "libcapvet.a"])[0]
     compare("its global symbols", set(calls()), set(re.findall(r" T (\w+)$", symbols, re.M)))
     named = re.findall(r"\(SONAME\).*\[(.*)\]", run(["readelf", "--dynamic", BUILT / "target/release/libcapvet.so"])[0])
-    compare("the name of cargo's own shared library", ["libcapvet.so.1"], named)
+    compare("the name of cargo's own shared library", ["libcapvet.so.2"], named)
 
 
 def beside_another(folder):
@@ -114,14 +103,14 @@ def beside_another(folder):
     said, status = run([*words, folder / "twice.c", *archives, "-o", folder / "twice"])
     expect("two archives of rustc don't link", status != 0 and "multiple definition" in said, said)
     compare("a program with two archives", ("", 0), run([*words, folder / "both.c", BUILT / "libcapvet.a", archives[0], "-o", folder / "both"]))
-    compare("what it prints", ("65792 42\n", 0), run([folder / "both"]))
+    compare("what it prints", ("131072 42\n", 0), run([folder / "both"]))
     for name, call in (("first", "marks_bound"), ("second", "pack_bound")):
         (folder / f"{name}.rs").write_text(LINKING.format(call=call))
         compare(f"rustc of the {name} crate", ("", 0), run(["rustc", "--edition=2021", "--crate-type=rlib", "-L", BUILT, f"{name}.rs"], cwd=folder))
     (folder / "program.rs").write_text(OVER_BOTH)
     compare("rustc of a program over both", ("", 0), run(["rustc", "--edition=2021", "--extern", "first=libfirst.rlib", "--extern",
                                                           "second=libsecond.rlib", "-L", BUILT, "program.rs"], cwd=folder))
-    compare("what it prints", ("(65792, 3) (65792, 1280)\n", 0), run([folder / "program"]))
+    compare("what it prints", ("(131072, 3) (131072, 1280)\n", 0), run([folder / "program"]))
 
 
 def old_processors(folder):
@@ -155,8 +144,6 @@ def main():
                 exports()
                 beside_another(Path(folder))
                 old_processors(Path(folder))
-                script("calls.py", BUILT / "libcapvet.a", PROGRAM)
-                script("stack.py", BUILT / "libcapvet.a")
     return ended()
 
 

@@ -21,7 +21,7 @@ import harness
 import model
 from harness import TOP, compare, ended
 from made import changed, made_up, samples
-from model import AMPLIFIED, ANSWERS, CANONICAL, EXCLUSIVE, IS_CANONICAL, NONSTRICT, TRAILING, VET, VET_SEGMENTS, Limits
+from model import AMPLIFIED, ANSWERS, CANONICAL, EXCLUSIVE, CHECK, NONSTRICT, TRAILING, VET, VET_SEGMENTS, Limits
 
 BATCH = 20_000
 NAMES = {number: "".join(part.title() for part in name.split("_")) if name.isupper() else name for name, number in ANSWERS.items()}
@@ -58,7 +58,7 @@ def by_program(program, path, messages, limits, is_exclusive):
 def requests(messages, limits, chance):
     """A call for each message."""
     for message in messages:
-        call = chance.choice((VET, VET, EXCLUSIVE, CANONICAL, CANONICAL, IS_CANONICAL, VET_SEGMENTS))
+        call = chance.choice((VET, VET, EXCLUSIVE, CANONICAL, CANONICAL, CHECK, VET_SEGMENTS))
         more = limits if chance.randrange(4) else Limits(limits.message_words, limits.charge, limits.depth, limits.flags | TRAILING)
         yield flags.asked(call, message + bytes(chance.choice((0, 0, 0, 8))), more, chance.choice((1 << 12, 1 << 12, 0)))
 

@@ -1,16 +1,19 @@
 #!/usr/bin/env python3
-"""Checks a change of one crate as far as it reaches, in a part of the time of `make test`.
+"""Checks a change of one crate as far as it reaches, in a part of the time of `make prove`.
 
     check.py CRATE
 
- 1. the proof of the crate, and its layout;
- 2. the crates above that use it, and beside that their tests in Rattle, without a proof that these are safe. On the cores that
+ 1. the plain text, without any proof: it is written again, its tests pass, and so do the scripts of the program over a build of
+    it by cargo. What cargo builds is kept in build/plain. A crate of tests has no plain text;
+ 2. the proof of the crate, and its layout;
+ 3. the crates above that use it, and beside that their tests in Rattle, without a proof that these are safe. On the cores that
     these leave, its must-fail edits of files that have changed, and of files that use something of these, over any number of
     others. If that is none, or if `lib.rt` or a file beside `src` has changed, all of its edits. What an earlier try refused counts;
- 3. the scripts that its behaviour is in: those of the built program, or of the archive from C, or both.
+ 4. the scripts that its behaviour is in: those of the built program, or of the archive from C, or both. The plain builds are
+    compared with the proved ones.
 
 Each step takes all cores. Of what it writes only errors and warnings are shown, and the time that it took. The first step that
-fails is the last one, and then the status is 1. `make test` also has the packages, the bindings and the servers.
+fails is the last one, and then the status is 1. `make prove` also has the packages, the bindings and the servers.
 """
 import os
 import re
@@ -22,12 +25,16 @@ from concurrent.futures import ThreadPoolExecutor
 from pathlib import Path
 
 import all as every
+import cargo
 import edits
+import needs
 import prove
 
-# For the program and for the archive the scripts that show their behaviour.
-SCRIPTS = {prove.PROGRAM: ("program.py", "filter.py", "live.py", "readers.py", "pages.py"),
-           prove.ARCHIVE: ("calls.py", "header.py", "stack.py")}
+# For the program and for the archive the scripts that show their behaviour, and compare the plain build with the proved one.
+SCRIPTS = {prove.PROGRAM: ("program.py", "filter.py", "live.py", "readers.py", "pages.py", "plain_program.py"),
+           prove.ARCHIVE: ("calls.py", "header.py", "stack.py", "plain.py")}
+# Those of the program that run over the plain one before anything is proved.
+EARLY = ("program.py", "filter.py", "live.py")
 CORES = len(os.sched_getaffinity(0))
 # Lines of `rt` that matter in any case, and lines that don't even matter where it fails.
 LOUD = re.compile(r"\b(error|warning)\b|cannot be applied")
@@ -43,6 +50,30 @@ def rt(folder, *words, beside=False):
         if not QUIET.match(line) if ran.returncode else LOUD.search(line):
             print(line)
     return ran.returncode == 0
+
+
+def succeeds(words, **how):
+    """Runs a command, and shows what it writes where it fails. Whether it ended well."""
+    ran = subprocess.run(words, stdin=subprocess.DEVNULL, stdout=subprocess.PIPE, stderr=subprocess.STDOUT, text=True, errors="replace", **how)
+    print(ran.stdout * (ran.returncode != 0), end="")
+    return ran.returncode == 0
+
+
+def try_plain(name):
+    """Writes the plain text, and tests it."""
+    if prove.has_tests(name) or needs.missing("the plain text", "cargo", "rustc", "rustfmt", "crates"):
+        return True
+    folder = prove.TOP / "build/plain"
+    folder.mkdir(parents=True, exist_ok=True)
+    how = {"env": cargo.environment(folder)}
+    if not succeeds([sys.executable, "tools/erase/erase.py"], cwd=prove.TOP):
+        return False
+    if not succeeds(["cargo", "test", *cargo.CARGO, "--workspace"], cwd=prove.TOP / "rust", **how):
+        return False
+    if prove.PROGRAM.parts[1] not in prove.above(name) or needs.missing("the plain program", "crate-clap", "crate-sha2"):
+        return True
+    is_built = succeeds(["cargo", "build", *cargo.CARGO, "--profile", "checked"], cwd=prove.TOP / "rust/capvet-cli", **how)
+    return is_built and run_each(EARLY, (str(folder / "target/checked/capvet"), every.PLAIN[1]))
 
 
 def check(name):
@@ -123,9 +154,13 @@ def run_scripts(name):
     """Runs the scripts over what the crates above have built."""
     built = [file for file in SCRIPTS if file.parts[1] in prove.above(name)]
     prove.take(prove.TOP, built)
-    names = {script for file in built for script in SCRIPTS[file]}
-    with ThreadPoolExecutor(CORES) as cores:
-        steps = list(cores.map(lambda it: every.run_apart(*it, None), (it for it in every.SCRIPTS if it[1][0] in names)))
+    return run_each({script for file in built for script in SCRIPTS[file]}, every.PROVED)
+
+
+def run_each(names, build):
+    """Runs the scripts of these names, side by side, over the files of a build. Whether all passed."""
+    scripts = every.over(build, [it for it in (*every.SCRIPTS, *every.OVER_PROVED) if it[1][0] in names])
+    steps = list(every.run_scripts(scripts, None, lambda _: None))
     for step in steps:
         print(step.text * bool(step.failed) + step.line)
     every.show_untested(steps)
@@ -138,7 +173,7 @@ def processor_time():
     return used.ru_utime + used.ru_stime
 
 
-STEPS = {"the crate": check, "the crates above and its must-fail edits": prove_above_and_edit, "the scripts": run_scripts}
+STEPS = {"the plain text": try_plain, "the crate": check, "the crates above and its must-fail edits": prove_above_and_edit, "the scripts": run_scripts}
 
 
 def main(words):

@@ -8,6 +8,7 @@ import subprocess
 import sys
 
 import install
+import needs
 from amount import IS_FULL
 from harness import TOP, compare, run
 from needs import missing
@@ -45,33 +46,37 @@ def listed(dist):
 
 def symbols(dist):
     """The list of symbols has each call of the header, and its version that of the header at most."""
-    text = control(next(dist.glob("apt/libcapvet1_*_amd64.deb")), "symbols")
-    calls = dict(re.findall(r"^ (capvet_\w+)@CAPVET_1 ([\d.]+)~?$", text, re.M))
+    text = control(next(dist.glob("apt/libcapvet2_*_amd64.deb")), "symbols")
+    calls = dict(re.findall(r"^ (capvet_\w+)@CAPVET_2 ([\d.]+)~?$", text, re.M))
     compare("calls of the list of symbols", sorted(packing.calls()), sorted(calls))
     compare("versions of the list of symbols", True, all(it.split(".") <= packing.version().split(".") for it in calls.values()))
 
 
 def crate_over(root, folder):
-    """A program over the package's own crate for Rust is built, with the package's library, and nothing is written there."""
-    if missing("the crate of the Debian package", "cargo", "rustc", "pkg-config"):
+    """A program over the packages' own crates for Rust is built, beside Debian's crates, and nothing is written there."""
+    if missing("the crate of the Debian package", "cargo", "rustc", "crates"):
         return
-    crate, project = next(root.glob("usr/share/cargo/registry/capvet-*")), folder / "over-deb"
-    (project / "src").mkdir(parents=True)
+    project, registry = folder / "over-deb", folder / "registry"
+    registry.mkdir()
+    for crate in (*needs.CRATES.iterdir(), *root.glob("usr/share/cargo/registry/*")):
+        (registry / crate.name).symlink_to(crate)
+    for name in ("src", ".cargo"):
+        (project / name).mkdir(parents=True)
+    (project / ".cargo/config.toml").write_text(f'[source.debian]\ndirectory = "{registry}"\n[source.crates-io]\nreplace-with = "debian"\n')
     (project / "Cargo.toml").write_text(f"""[package]
 name = "over"
 version = "0.0.0"
 edition = "2021"
 [dependencies]
-capvet = {{ path = "{crate}" }}
+capvet = "{packing.version()}"
 [workspace]
 """)
     (project / "src/main.rs").write_text(f"""fn main() {{
     let bytes = include_bytes!("{TOP / 'examples/contacts.bin'}");
-    println!("{{}}", capvet::vet(bytes, capvet::Limits::DEFAULT).expect("it is accepted").charge);
+    println!("{{}}", capvet::vet(bytes, capvet::Limits::DEFAULT).expect("it is accepted").report().charge);
 }}
 """)
-    environment = {**os.environ, "PKG_CONFIG_SYSROOT_DIR": str(root), "CARGO_TARGET_DIR": str(folder / "target-deb"),
-                   "PKG_CONFIG_LIBDIR": str(root / LIBRARIES / "pkgconfig")}
+    environment = {**os.environ, "CARGO_TARGET_DIR": str(folder / "target-deb")}
     before = install.files_of(root)
     compare("cargo run over the Debian package", ("391\n", 0), run(["cargo", "run", "--offline", "--quiet"], cwd=project, env=environment))
     compare("files after cargo run", before, install.files_of(root))
@@ -93,14 +98,14 @@ def installed(dist, folder, built):
         print(text)
         return
     compare("the package's program", built["x86_64/capvet"], packing.digest(root / "usr/bin/capvet"))
-    compare("the package's libraries", [built["x86_64/libcapvet.a"], built["x86_64/libcapvet.so.1"]],
+    compare("the package's libraries", [built["x86_64/libcapvet.a"], built["x86_64/libcapvet.so.2"]],
             [packing.digest(root / LIBRARIES / name) for name in ("libcapvet.a", "libcapvet.so")])
     compare("the package's program runs", (VETTED, 0), run([root / "usr/bin/capvet", "vet", TOP / "examples/contacts.bin"]))
     crate_over(root, folder)
     for page in (root / "usr/share/doc/capvet").rglob("*.md"):
         # (the page on installation is about the other packages too)
         if page.name != "install.md":
-            compare(f"{page.name} names no file of a checkout", [], re.findall(r"bindings/\w+|\$HOME/x", page.read_text()))
+            compare(f"{page.name} names no file of a checkout", [], re.findall(r"(?:bindings|(?<!examples/)rust)/\w+|\$HOME/x", page.read_text()))
     compare("dpkg -P", 0, run([*dpkg, "-P", *(fields(it)["Package"] for it in packages)])[1])
     compare("files left", before, {name for name in install.files_of(root) if not name.startswith("var/")})
 
@@ -111,7 +116,7 @@ def made(dist, folder):
     for package in dist.glob("apt/*_amd64.deb"):
         run(["dpkg-deb", "-x", package, root])
     if not missing("that what the packages have is bound when it is loaded", "readelf"):
-        for file in (*root.glob("usr/bin/capvet-guard"), *root.glob("usr/lib/python3/dist-packages/**/*.so"), root / LIBRARIES / "libcapvet.so.1"):
+        for file in (*root.glob("usr/bin/capvet-guard"), *root.glob("usr/lib/python3/dist-packages/**/*.so"), root / LIBRARIES / "libcapvet.so.2"):
             compare(f"{file.name} is bound when it is loaded", True, "BIND_NOW" in run(["readelf", "-dW", file])[0])
     needed = [line for file in root.glob("usr/lib/python3/dist-packages/*/METADATA") for line in file.read_text().splitlines()
               if line.startswith("Requires-Dist: ")]

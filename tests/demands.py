@@ -8,9 +8,9 @@ import struct
 
 from harness import framed
 from strict import CASES, many
-from tables import BITLESS, CAPABILITY, CYCLE, NULL, Row, SHARED, STRUCT, word
+from tables import BITLESS, CAPABILITY, CYCLE, NULL, Row, SHARED, STRUCT, hashed, word
 
-TEXTS = ("vet", "vet --exclusive", "dump", "get /", "check")
+TEXTS = ("vet", "vet --exclusive", "dump", "get /", "check", "hash")
 DEMANDS = {"--strict": "--allow-nonstrict", "--unamplified": "--allow-amplified"}
 NULL_COPY = NULL
 EMPTY_COPY = "0000000001000000 fcffffff00000000"
@@ -41,7 +41,9 @@ def accepted(options, stream, numbers, head, copy, below=""):
             Row(f"get / {options}", stream, f"message 0: found\nnode {head}\n{below}"),
             Row(f"check {options}", stream, f"message 0: {'' if is_canonical else 'not '}canonical\n", status=int(not is_canonical)),
             Row(f"canon {options}", stream, word(copy)) if copy else
-            Row(f"canon {options}", stream, "", "capvet: message 0: HasCapability at 0:0\n", 1))
+            Row(f"canon {options}", stream, "", "capvet: message 0: HasCapability at 0:0\n", 1),
+            Row(f"hash {options}", stream, hashed(copy)) if copy else
+            Row(f"hash {options}", stream, "message 0: no canonical form, capability at 0:0\n", status=1))
 
 
 def words(*numbers):
@@ -149,6 +151,7 @@ ORDER = (
     Row("vet --exclusive --strict", SHARED, "message 0: refused Overlap at 0:2 pointers 3\n", status=1),
     # the pointer before a capability, also one that comes before it in preorder
     Row("canon", CAPABILITY_AND_PAD, "", "capvet: message 0: HasCapability at 0:1\n", 1),
+    Row("hash", CAPABILITY_AND_PAD, "message 0: no canonical form, capability at 0:1\n", status=1),
     *refused("--strict", CAPABILITY_AND_PAD, "NullPad at 0:2 pointers 3"),
     # a message that isn't canonical comes after all of these
     Row("check --strict", SHARED, "message 0: not canonical\n", status=1),

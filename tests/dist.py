@@ -1,14 +1,15 @@
 #!/usr/bin/env python3
 """Packs what is built in a clone, and uses the packages as their receivers do.
 
-    dist.py [PROGRAM [ARCHIVE]] [--full]
+    dist.py [PROGRAM [ARCHIVE]] [--full] [--long]
 
 The clone has the files of this folder, committed. The archive for Linux is unpacked where there is no `rt`, and the commands of its
 README and pages are run word for word. The Debian packages are installed below a folder and removed. Those for arm64 are unpacked,
 and their programs run by qemu. The programs and archives in all packages are the built ones, and SHA256SUMS and BUILT have their
 sums. The shared library exports the calls and nothing else. The wheels need no newer C library than their tag says. A change that
 is not committed is refused. With --full a second clone at another path gives the same sums, and the guard is packed
-too. Then apt installs the packages in fresh roots of Debian (roots.py), and an image is built. What a machine has no tool for is said in a line of its own.
+too. With --full and --long apt installs the packages in fresh roots of Debian (roots.py), and an image is built. What a machine has
+no tool for is said in a line of its own.
 The last line is 'N passed, M failed', and the status is 1 if a case failed.
 """
 import hashlib
@@ -25,15 +26,18 @@ import debs
 import install
 import reading
 import roots
+import amount
 from amount import IS_FULL
 from harness import ARCHIVE, PROGRAM, TOP, compare, ended, run
 from needs import has, missing, path_without
 
 sys.path.insert(0, str(TOP / "packaging"))
-import packing  # noqa: E402 (it is in the folder that the line above names)
+import guards  # noqa: E402 (it is in the folder that the line above names)
+import packing  # noqa: E402
 import targets  # noqa: E402
 import wheels as made_wheels  # noqa: E402
 
+IS_LONG = amount.has("--long")
 COMMITTED = {f"GIT_{who}_{what}": value for who in ("AUTHOR", "COMMITTER")
              for what, value in (("NAME", "a"), ("EMAIL", "a@b"), ("DATE", "1700000000 +0000"))}
 VETTED = """\
@@ -42,8 +46,10 @@ message 1: accepted charge 76 depth 4 pointers 34 caps 0
 message 2: accepted charge 20 depth 2 pointers 7 caps 0
 message 3: accepted charge 78 depth 7 pointers 21 caps 0
 """
+# What the zip for Windows needs.
+FOR_WINDOWS = ("oldest-rust", "rust-for-windows", "x86_64-w64-mingw32-gcc", "crates", "crate-clap", "crate-sha2")
 # Words of maintainers, which are in no page of a package.
-MAINTAINERS = re.compile(r"crates/|tests/|\brt \w|`?make (?:build|install|test|gate|dist|wheel|guard|uninstall|bench|allocations|times|run)\b")
+MAINTAINERS = re.compile(r"(?<!crates\.io/)crates/|tests/|\brt \w|`?make (?:build|install|test|gate|dist|wheel|guard|uninstall|bench|allocations|times|run)\b")
 # The pages of the archive, each with the tools that its commands need.
 PAGES = {"guide": (), "service": (), "output": (), "c": ("cc", "pkg-config"), "go": ("go", "cc", "pkg-config"),
          "python": ("wheel", "jq", "esbuild", "wasm-opt"), "js": ("wasm-opt", "node", "npm")}
@@ -80,7 +86,7 @@ def clone(folder, made, with_guards=False):
 def packed(folder):
     """The packages that `make dist` makes of a clone, each with its sum."""
     environment = {name: value for name, value in os.environ.items() if name not in ("MAKEFLAGS", "MAKELEVEL", "SOURCE_DATE_EPOCH")}
-    flags = "" if IS_FULL else "--without-guard"
+    flags = "--any-go" if IS_FULL else "--without-guard"
     text, status = run(["make", "-s", "dist", f"DIST_FLAGS={flags}"], timeout=1800, cwd=folder, env=environment)
     compare(f"make dist in {folder.name}", 0, status)
     if status:
@@ -94,6 +100,14 @@ def machines():
     return [it for it in packing.MACHINES if not any(targets.lacking(name) for name in it.targets)]
 
 
+def versions_of_go():
+    """Only a Go that bounds the keys of certificates packs the guard, unless --any-go says otherwise, as it does here."""
+    for version, is_bounded in (("1.19.8", False), ("1.19.11", False), ("1.19.12", True), ("1.20", False), ("1.20.6", False), ("1.20.7", True),
+                                ("1.21.0", True), ("1.18.10", False), ("1.22", True), ("2.0", True)):
+        compare(f"go {version} packs the guard", is_bounded, guards.is_bounded(f"go version go{version} linux/amd64"))
+    compare("no version", False, guards.is_bounded("go version devel"))
+
+
 def packs_guard():
     """Whether the guard is packed."""
     return IS_FULL and all(has(name) for name in ("go", "dpkg", "go-prometheus", "go-proxyproto", "go-systemd"))
@@ -104,14 +118,15 @@ def expected():
     version, debian = packing.version(), packing.debian_version()
     has_wheel, has_module = made_wheels.interpreter() is not None, has("wasm-opt")
     common = ["capvet-doc", "golang-capvet-dev", *["capvet-inspector"] * (has_module and has("esbuild"))]
-    own = ["capvet", "libcapvet1", "libcapvet-dev", "librust-capvet-dev", "librust-capvet-capnp-dev", "librust-capvet-capnp-rpc-dev",
-           *["python3-capvet"] * has_wheel, *["capvet-guard"] * packs_guard()]
+    own = ["capvet", "libcapvet2", "libcapvet-dev", "librust-capvet-core-dev", "librust-capvet-dev", "librust-capvet-capnp-dev",
+           "librust-capvet-capnp-rpc-dev", *["python3-capvet"] * has_wheel, *["capvet-guard"] * packs_guard()]
     names = ["BUILT", "README.md", "SHA256SUMS", "apt/Packages", "apt/Packages.gz", "apt/Release", *(f"apt/{name}_{debian}_all.deb" for name in common)]
     for machine in machines():
         names += [f"capvet-{version}-{machine.name}-linux.tar.gz", *(f"apt/{name}_{debian}_{machine.debian}.deb" for name in own)]
         names += [f"capvet-{version}-cp39-abi3-manylinux_2_17_{machine.name}.whl"] * has_wheel
     names += [f"capvet-{version}.tar.gz"] * has_wheel + [f"capvet-{version}.wasm"] * has_module
     names += [f"capvet-{version}.tgz"] * (has_module and has("node"))
+    names += [f"capvet-{version}-x86_64-windows.zip"] * all(map(has, FOR_WINDOWS))
     return sorted([*names, *[f"capvet-inspector-{version}.html"] * (has_module and has("esbuild"))])
 
 
@@ -151,7 +166,7 @@ def contents(dist, folder, machine, built):
     name = next(dist.glob(f"*-{machine}-linux.tar.gz"))
     subprocess.run(["tar", "xf", name, "-C", folder], check=True)
     root = folder / name.name.removesuffix(".tar.gz")
-    places = {"bin/capvet": "capvet-static", "lib/libcapvet.a": "libcapvet.a", "lib/libcapvet.so.1": "libcapvet.so.1"}
+    places = {"bin/capvet": "capvet-static", "lib/libcapvet.a": "libcapvet.a", "lib/libcapvet.so.2": "libcapvet.so.2"}
     places |= {"bin/capvet-guard": "capvet-guard-static"} if packs_guard() else {}
     for place, what in places.items():
         compare(f"{place} of the archive for {machine} is what was built", built[f"{machine}/{what}"], sum_of(root / place))
@@ -171,17 +186,16 @@ def unpacked(dist, folder, built):
     environment = without_rt(folder)
     blocks = [block for language, block in reading.BLOCK.findall((root / "README.md").read_text()) if language == "sh"]
     compare("the README has five blocks of commands", 5, len(blocks))
-    tools = ((), ("cc", "pkg-config"), ("cargo", "cc", "pkg-config"), ("go", "cc", "pkg-config"), ("wheel",))
+    tools = ((), ("cc", "pkg-config"), ("cargo", "cc", "crates"), ("go", "cc", "pkg-config"), ("wheel",))
     expected, ran = "", []
     for block, names in zip(blocks, tools):
         if not missing(f"commands of the README: {block.splitlines()[-1]}", *names):
             ran.append(block)
             expected += "391\n" if "wheel" in names else VETTED
     compare("the commands of the README", (expected, 0), run(["sh", "-ec", "\n".join(ran)], cwd=root, env=environment))
-    if not missing("cargo test of the archive's crate", "cargo", "pkg-config"):
-        environment["PKG_CONFIG_PATH"] = str(root / "lib/pkgconfig")
+    if not missing("cargo test of the archive's crate", "cargo", "cc", "crates"):
         compare("cargo test of the archive's crate", 0,
-                run(["cargo", "test", "--offline", "--quiet", "--lib"], cwd=root / "bindings/rust", env=environment)[1])
+                run(["cargo", "test", "--offline", "--quiet", "--lib"], cwd=root / "rust/capvet", env=environment)[1])
     return root
 
 
@@ -248,7 +262,7 @@ def wheels(dist, folder):
 
 def shared(root, folder):
     """The shared library exports the calls and nothing else, and a program runs with it."""
-    library = root / "lib/libcapvet.so.1"
+    library = root / "lib/libcapvet.so.2"
     header = (root / "include/capvet.h").read_text()
     calls = set(re.findall(r"^(?!CAPVET_INLINE)\w+ \*?(capvet_\w+)\(", header, re.M))
     if not missing("the exports of the shared library", "readelf"):
@@ -256,13 +270,13 @@ def shared(root, folder):
         exported = set(re.findall(r"(?:FUNC|OBJECT) +GLOBAL DEFAULT +\d+ (\w+)", table))
         compare("exports of the shared library", calls, exported)
         dynamic = run(["readelf", "-d", "-l", "-W", library])[0]
-        compare("its name", ["libcapvet.so.1"], re.findall(r"\(SONAME\).*\[(.*)\]", dynamic))
+        compare("its name", ["libcapvet.so.2"], re.findall(r"\(SONAME\).*\[(.*)\]", dynamic))
         compare("what it needs", ["libc.so.6"], re.findall(r"\(NEEDED\).*\[(.*)\]", dynamic))
         compare("no stack is executable", ["RW"], re.findall(r"GNU_STACK +(?:0x\w+ +){5}(\w+)", dynamic))
     if missing("a program over the shared library", "cc"):
         return
     program = folder / "vet-shared"
-    command = ["cc", f"-I{root}/include", root / "examples/c/vet.c", f"-L{root}/lib", "-l:libcapvet.so.1", "-o", program]
+    command = ["cc", f"-I{root}/include", root / "examples/c/vet.c", f"-L{root}/lib", "-l:libcapvet.so.2", "-o", program]
     compare("cc with the shared library", ("", 0), run(command))
     environment = {**os.environ, "LD_LIBRARY_PATH": str(root / "lib")}
     compare("vet.c over the shared library", (VETTED, 0), run([program, root / "examples/stream-of-four.bin"], env=environment))
@@ -291,18 +305,18 @@ def for_arm(dist, folder, built):
     if missing("the packages for arm64", "aarch64-linux-gnu-gcc", "qemu-aarch64", "dpkg-deb"):
         return
     root, debian = contents(dist, folder, "aarch64", built), folder / "arm64"
-    for name in ("capvet", "libcapvet1", "libcapvet-dev"):
+    for name in ("capvet", "libcapvet2", "libcapvet-dev"):
         subprocess.run(["dpkg-deb", "-x", next(dist.glob(f"apt/{name}_*_arm64.deb")), debian], check=True)
     library = debian / "usr/lib/aarch64-linux-gnu"
-    compare("the libraries of the package for arm64", [built["aarch64/libcapvet.a"], built["aarch64/libcapvet.so.1"]],
-            [sum_of(library / "libcapvet.a"), sum_of(library / "libcapvet.so.1")])
+    compare("the libraries of the package for arm64", [built["aarch64/libcapvet.a"], built["aarch64/libcapvet.so.2"]],
+            [sum_of(library / "libcapvet.a"), sum_of(library / "libcapvet.so.2")])
     compare("the program of the package for arm64", built["aarch64/capvet"], sum_of(debian / "usr/bin/capvet"))
     for program in (root / "bin/capvet", debian / "usr/bin/capvet"):
         command = ["qemu-aarch64", "-L", "/usr/aarch64-linux-gnu", program, "vet", TOP / "examples/stream-of-four.bin"]
         compare(f"{program.relative_to(folder)} runs", (VETTED, 0), run(command))
     source, program = TOP / "examples/c/vet.c", folder / "vet-arm64"
     built_by = ["aarch64-linux-gnu-gcc", f"-I{root}/include", source, f"-L{root}/lib"]
-    for library in ("-lcapvet", "-l:libcapvet.so.1"):
+    for library in ("-lcapvet", "-l:libcapvet.so.2"):
         compare(f"vet.c for arm64 with {library}", ("", 0), run([*built_by, library, "-o", program]))
         command = ["qemu-aarch64", "-L", "/usr/aarch64-linux-gnu", "-E", f"LD_LIBRARY_PATH={root}/lib", program, TOP / "examples/stream-of-four.bin"]
         compare(f"vet.c for arm64 runs, with {library}", (VETTED, 0), run(command))
@@ -326,6 +340,7 @@ def image(root, folder):
 def main():
     if missing("the packages", "git", "make", "rt", "gcc", "dpkg-deb", "dpkg-scanpackages"):
         return ended()
+    versions_of_go()
     compare("the builds for other machines", True, has_targets())
     with tempfile.TemporaryDirectory(ignore_cleanup_errors=True) as scratch:
         folder = Path(scratch)
@@ -335,6 +350,10 @@ def main():
         one, dist = packed(first), first / "dist"
         compare("what is packed", expected(), sorted(one))
         built = summed(dist)
+        if has("crates"):
+            # (cargo reads it for every crate below the folder)
+            (folder / ".cargo").mkdir()
+            (folder / ".cargo/config.toml").write_text(roots.crates_of_debian((dist / "README.md").read_text()))
         root = unpacked(dist, folder, built)
         pages(root, folder)
         shared(root, folder)
@@ -347,11 +366,12 @@ def main():
         text, status = run(["make", "-s", "dist"], cwd=first)
         compare("make dist, with a change that isn't committed", (True, True), ("commit all changes first" in text, status != 0))
         if IS_FULL:
-            image(root, folder)
             second.mkdir(parents=True)
             clone(second, targets.TARGETS)
             compare("packages of two clones", one, packed(second))
             shutil.rmtree(second)
+        if IS_LONG:
+            image(root, folder)
             roots.check(dist, folder)
     return ended()
 

@@ -17,11 +17,17 @@ the prover is judged. An edit is bad
 
 So an edit changes one value, and keeps branches and names.
 
+Most of a try is that the prover reads the libraries. So edits in the bodies of different functions are tried together, in one copy of
+the crate. A function is proved from the contracts of those that it calls, so the other edits change nothing for it. The prover looks
+at no function that calls a refused one, and says so: such an edit is tried again after the others. Together an edit is only ever
+refused, and by errors of its own function. In every other case it is tried alone, and that decides.
+
 What was refused is kept on this machine, in ~/.cache/capvet/edits or below XDG_CACHE_HOME. It is kept by the checksum of all that
 the try depends on: see `inputs`. A later run, in any checkout, tries only the others. A line says how many it took from there. With
 --anew it tries all. The last line is 'N passed, M failed', and the status is 1 if one failed.
 """
 import argparse
+import contextlib
 import functools
 import hashlib
 import json
@@ -33,6 +39,7 @@ import subprocess
 import sys
 import tempfile
 from concurrent.futures import ThreadPoolExecutor
+from dataclasses import dataclass
 from pathlib import Path
 
 import prove
@@ -47,15 +54,20 @@ UNREAD = re.compile(r"is not in scope|has no field|is no name|operand is missing
 # The goals of a clause, of a type's invariant, of a ghost value, and of a loop's invariant, which is also named as the loop's
 # ghost is. The others are named after a check or after a callee.
 CLAUSE = re.compile(r"returns|invariant|ghost|.*-(init|preserved)(-|$)")
+# What is said of a function that was looked at and isn't proved. (where it calls such a one, it wasn't looked at)
+REFUSED = re.compile(r"(?m)^fn \S+: (?:not proved$|no proof: (?!it calls ))")
+# The line with a function's name, and its indentation.
+HEAD = re.compile(r'( *)(?:pub(?:\([a-z]+\))? )?(?:const )?(?:unsafe )?(?:extern "C" )?fn (\w+)')
 
 
 class BadEdit(Exception):
     """Why an edit can't be applied."""
 
 
-def edited(crate, edit):
-    """The texts of the files of a crate that this text of an edit changes, by their paths in it."""
-    texts, path, old = {}, None, None
+def edited(crate, edit, before=()):
+    """The texts of the files of a crate that this text of an edit changes, by their paths in it. `before` has the texts of those that
+    other edits have changed."""
+    texts, before, path, old = {}, dict(before), None, None
     for line in edit.split("\n"):
         if line.startswith("file: "):
             path = line.removeprefix("file: ").strip()
@@ -64,7 +76,7 @@ def edited(crate, edit):
         elif line.startswith("old: "):
             old = line.removeprefix("old: ")
         elif line.startswith("new:"):
-            text = texts[path] if path in texts else (crate / path).read_text()
+            text = texts.get(path) or before.get(path) or (crate / path).read_text()
             if text.count(old) != 1:
                 raise BadEdit(f"an old text is in {path} {text.count(old)} times, and not once")
             texts[path] = text.replace(old, line.removeprefix("new:").removeprefix(" "))
@@ -138,6 +150,89 @@ def judged(output, status, changed, own):
     if not any(map(CLAUSE.match, goals)) and not any(call and call[1] in own for call in called):
         return False, f"no clause refuses it, but only another goal: {where}"
     return True, f"refused at {where}"
+
+
+@dataclass(frozen=True)
+class Function:
+    """A function of a crate: its file, its lines there from the first to the last, and the modules and the name that the prover has
+    of it. The type of a method is missing."""
+    file: str
+    first: int
+    last: int
+    modules: tuple
+    name: str
+
+    def lines_of(self, output):
+        """Which lines of the prover's are about this function: its errors and notes, whether it is proved, and the last line."""
+        at = "/".join(["proofs", *self.modules])
+        ours = re.compile(rf"(?:note: )?(?:\./)?(?:{at}/(?:\w+/)?{self.name}/|{self.file}:(\d+):)")
+        verdict = re.compile(rf"fn \w+::{''.join(f'{it}::' for it in self.modules)}(?:\w+::)?{self.name}: .*|logic=.*")
+        places = ((line, ours.match(line)) for line in output.splitlines())
+        return "\n".join(line for line, place in places if verdict.fullmatch(line) or
+                         place and (not place[1] or self.first <= int(place[1]) <= self.last))
+
+
+def function_at(file, lines, at):
+    """The function of a file in whose body a line is. It is None where there is none, or where others have its name."""
+    heads = {number: found.groups() for number, line in enumerate(lines) if (found := HEAD.match(line))}
+    first = max((number for number in heads if number < at), default=None)
+    if first is None or [name for _, name in heads.values()].count(heads[first][1]) > 1:
+        return None
+    # (each clause of the head has more indentation than the line that opens the body)
+    outer = [number for number in range(first, len(lines)) if re.match(heads[first][0] + r"\S", lines[number])]
+    opens = next((number for number in outer if lines[number].endswith("{")), len(lines))
+    closes = next((number for number in outer if number > opens and lines[number].strip() == "}"), len(lines))
+    modules = tuple(it for it in Path(file).with_suffix("").parts[1:] if it not in ("lib", "main"))
+    return Function(file, first + 1, closes + 1, modules, heads[first][1]) if opens < at < closes else None
+
+
+def function_of(crate, edit):
+    """The one function whose body an edit changes. It is None where the edit changes more, or something else."""
+    try:
+        edited(crate, edit)
+    except BadEdit:
+        return None
+    found, file = set(), None
+    for line in edit.split("\n"):
+        if line.startswith("file: "):
+            file = line.removeprefix("file: ").strip()
+        elif line.startswith("old: "):
+            before, _, _ = (crate / file).read_text().partition(line.removeprefix("old: "))
+            found.add(function_at(file, (crate / file).read_text().splitlines(), before.count("\n")))
+    return found.pop() if len(found) == 1 else None
+
+
+def refused_together(crate, texts, kept, beside):
+    """Tries edits of different functions in one copy of the crate. Gives those that a clause of their own function refuses, and why.
+    One whose old text another edit writes too is left out."""
+    files, applied = {}, {}
+    for name, text in texts.items():
+        with contextlib.suppress(BadEdit):
+            files |= edited(crate, text, files)
+            applied[name] = text
+    output, status = checked(crate, files, kept, beside)
+    own, found = functions(crate), {}
+    for name, text in applied.items():
+        lines = function_of(crate, text).lines_of(output)
+        holds, why = judged(lines, status, files, own)
+        if holds and REFUSED.search(lines):
+            found[name] = why
+    return found
+
+
+def results(crate, texts, kept, beside):
+    """Tries edits, and yields for each its name, whether it is refused at a clause, and what to say. Those of different functions are
+    tried together as long as that refuses some, and the others alone."""
+    texts, refused = dict(texts), True
+    while refused:
+        apart = {function_of(crate, text): name for name, text in texts.items()}
+        apart.pop(None, None)
+        refused = refused_together(crate, {name: texts[name] for name in apart.values()}, kept, beside) if len(apart) > 1 else {}
+        for name, why in refused.items():
+            del texts[name]
+            yield name, True, why
+    for name, text in texts.items():
+        yield name, *tried(crate, text, kept, beside)
 
 
 def tried(crate, edit, kept, beside=False):
@@ -214,9 +309,10 @@ def keep(key, said):
         Path(file.name).replace(KEPT / key)
 
 
-def try_edits(crate, files, is_anew=False, beside=False, say=print):
+def try_edits(crate, files, is_anew=False, is_proved=False, beside=False, say=print):
     """Tries edits of one crate in turn, each over what the checks before it proved. Returns how many hold, and how many of
-    them were taken from an earlier run. `say` gets a line for each that was tried."""
+    them were taken from an earlier run. `say` gets a line for each that was tried. The crate without an edit is checked first, unless
+    it is known to be proved."""
     texts = {file.name: file.read_text() for file in files}
     keys = {name: checksum(inputs(crate, name, text)) for name, text in texts.items()}
     left = [name for name in texts if is_anew or taken(keys[name]) is None]
@@ -225,12 +321,11 @@ def try_edits(crate, files, is_anew=False, beside=False, say=print):
         kept = Path(folder) / "kept"
         if left and (crate / "out/incremental").is_dir():
             shutil.copytree(crate / "out/incremental", kept)
-        output, status = checked(crate, {}, kept, beside) if left else ("", 0)
+        output, status = checked(crate, {}, kept, beside) if left and not is_proved else ("", 0)
         if status:
             say(f"{crate.name}: not proved without an edit: {' '.join(output.splitlines()[-1:])}")
             return known, known
-        for name in left:
-            holds, why = tried(crate, texts[name], kept, beside)
+        for name, holds, why in results(crate, {name: texts[name] for name in left}, kept, beside):
             say(f"{crate.name}/{name}: {'' if holds else 'BAD EDIT: '}{why}")
             # (not if a file has changed meanwhile)
             if holds and checksum(inputs(crate, name, texts[name])) == keys[name]:
@@ -261,7 +356,7 @@ def main(given):
         return 1
     root = asked.proved or prove.TOP
     with ThreadPoolExecutor(len(os.sched_getaffinity(0))) as cores:
-        found = list(cores.map(lambda pair: try_edits(root / "crates" / pair[0], pair[1], asked.anew), pairs))
+        found = list(cores.map(lambda pair: try_edits(root / "crates" / pair[0], pair[1], asked.anew, bool(asked.proved)), pairs))
     passed, known, all_of_them = sum(it[0] for it in found), sum(it[1] for it in found), sum(len(files) for _, files in pairs)
     if known:
         print(f"edits: {known} of {all_of_them} were refused by an earlier run on this machine, which read the same: --anew tries them too")

@@ -11,13 +11,23 @@ for 6,000 messages. So have those for which `filter` refuses an accepted message
 As many messages in which most pointers lead to words of one another go through the program with --exclusive. The
 first pointer that uses a word of an overlap is found here by its definition, from the words that each pointer uses.
 
+With --canonical go three times as many messages that are nearly canonical: those of tests/differences.py. The first difference of each is that of
+tests/model.py. Each reason has to occur 20 times, and so do canonical messages.
+
 Streams that break off go through the program too, plain and packed, a fifth as many. Its lines on their ends are compared
-with what this script finds in their bytes.
+with what this script finds in their bytes. As many are of another format, or in the other form. `hash` and `filter` guess the format
+of each too, where its first bytes give it away.
 
 tests/c/explain.c explains each of these messages too, with the limits and flags of the same options. Its buffers have various
-sizes, one of them just the length of the text. It writes the lines after that of the verdict. It looks for no overlap. Half of the
-messages of one segment have no table there. The last line is 'N passed, M failed', and the status is 1 if a case failed.
+sizes, one of them just the length of the text. It writes the lines after that of the verdict. Its answer and report are those of
+capvet_vet, by tests/model.py and by the call. It looks for no overlap. Half of the messages of one segment have no table there. A
+tenth of the inputs are cut, have bytes after them, or claim other segments.
+
+tests/c/overlaps.c explains pointers as overlaps by capvet_explain_overlap, of as many messages in which most pointers lead to words
+of one another. Most are the pointer that overlaps. Others are a pointer before it, or none. The last line is
+'N passed, M failed', and the status is 1 if a case failed.
 """
+import gzip
 import random
 import re
 import struct
@@ -26,6 +36,7 @@ import tempfile
 from collections import Counter
 from pathlib import Path
 
+import differences
 import model
 from amount import cases
 from calls import CHECKS, compiled
@@ -36,9 +47,9 @@ from packing import packed
 from trees import bits, offset
 
 MANY = cases(6_000, full=100_000)  # changed messages
-# The answers of capvet_explain that come here, and the most bytes of a text.
-OK, BUFFER_TOO_SMALL, NO_NODE, BOUND = 0, 9, 21, 6144
-REPLY = struct.Struct("<IQ6Q4I4Q")
+# The most bytes of a text.
+BOUND = 6144
+REPLY = struct.Struct(f"<IQ{model.REPORT}")
 # How many messages a run of the program has.
 RUN = 500
 OPTIONS = ("", "--strict --unamplified", "--exclusive", "--strict --exclusive", "--words 60 --depth 4", "--packed",
@@ -46,6 +57,8 @@ OPTIONS = ("", "--strict --unamplified", "--exclusive", "--strict --exclusive", 
 LEAST = {"NoRoot": 5, "Reserved": 50, "SegmentMissing": 50, "PadOutside": 50, "PadIsFar": 5, "PadNotFar": 5, "TagKind": 5,
          "TagOffset": 5, "OutOfSegment": 100, "CompositeTag": 20, "CompositeOverrun": 20, "DepthLimit": 50, "WordLimit": 50,
          "ManySegments": 2, "NullPad": 5, "EmptySegment": 5, "CapabilityPad": 5, "Overlap": 20}
+CANONICAL = ("--canonical", "--canonical --packed", "--canonical --exclusive", "--canonical --strict --unamplified",
+             "--canonical --words 60 --depth 4")
 # The reasons for which `filter` refuses messages that are accepted by the options of a run.
 FILTERED = {"WordLimit": 5, "ManySegments": 1, "NullPad": 5, "EmptySegment": 5, "CapabilityPad": 5}
 ELEMENTS = ("empty elements", "bits", "bytes", "2 bytes each", "4 bytes each", "8 bytes each", "pointers", "structs")
@@ -64,7 +77,21 @@ SENTENCES = {
     "NullPad": "the only word of the landing pad is null, which common readers reject",
     "EmptySegment": "the target is in a segment without words, which common readers reject",
     "CapabilityPad": "the only word of the landing pad is a capability, which common readers reject",
-    "Overlap": "the pointer uses a word twice, or one that is used before it in preorder; --exclusive forbids both",
+    "Overlap": "the pointer uses a word twice, the root word, or one that an earlier pointer uses; --exclusive forbids all three",
+}
+# Those of the first difference from the canonical copy.
+DIFFERENCES = {
+    "Segments": "the message has more than one segment, and a canonical message has one",
+    "Far": "the pointer is a far pointer, and a canonical message has none",
+    "Capability": "the pointer is a capability, so the message has no canonical copy",
+    "EmptyStruct": "the target is a struct without words, and the pointer of a canonical message to it is fcffffff00000000",
+    "Place": "the target is not where the canonical copy has it: it is out of preorder, after a gap, or used twice",
+    "Bits": "bits are set after the last value of the list, and a canonical message has zeros there",
+    "EmptyList": "the list of structs has no elements, and a canonical message has no sizes in the tag of such a list",
+    "Surplus": "the list of structs has words after its last element, and a canonical message has none",
+    "DataZero": "the last data word of the struct, or of all structs of the list, is zero, and a canonical message leaves it out",
+    "PointerNull": "the last pointer of the struct, or of all structs of the list, is null, and a canonical message leaves it out",
+    "Trailing": "words come after the last object, and a canonical message ends with it",
 }
 
 
@@ -286,8 +313,20 @@ def filter_lines(message, words, depth, start, has_table):
     return []
 
 
+def difference_lines(number, message, first, start):
+    """The line on whether an accepted message is canonical, by its first difference, and the lines that explain that."""
+    if not first:
+        return [f"message {number}: canonical"]
+    reason, segment, at, pointers = first
+    lines = [f"reason {DIFFERENCES[reason]}"]
+    if reason not in ("Segments", "Trailing"):
+        lines = [f"path {path_to(message, pointers)}", *pointer_lines(message, segment, at, start, True), *lines]
+    return [f"message {number}: not canonical: {reason} at {segment}:{at} pointers {pointers}", *(f"  {it}" for it in lines)]
+
+
 def lines_of(number, message, options, start, has_table=True):
-    """All lines of a message that begins there in an input, as in `pointer_lines`, and the reason if it is refused."""
+    """All lines of a message that begins there in an input, as in `pointer_lines`, and the reason if it is refused or, where that
+    is asked, not canonical."""
     words = int(options[options.index("--words") + 1]) if "--words" in options else 8388608
     depth = int(options[options.index("--depth") + 1]) if "--depth" in options else 64
     try:
@@ -295,8 +334,12 @@ def lines_of(number, message, options, start, has_table=True):
     except model.Refused as refused:
         reason, what, lines = refused_lines(message, refused, options, words, depth, start, has_table)
         return [f"message {number}: refused {what}", *lines], reason
-    return [f"message {number}: accepted charge {tree.charge} depth {tree.depth} pointers {tree.pointers} "
-            f"caps {tree.capabilities}", *filter_lines(message, words, depth, start, has_table)], "accepted"
+    lines = [f"message {number}: accepted charge {tree.charge} depth {tree.depth} pointers {tree.pointers} "
+             f"caps {tree.capabilities}", *filter_lines(message, words, depth, start, has_table)]
+    first = model.difference(message, tree) if "--canonical" in options else None
+    if "--canonical" in options:
+        lines += difference_lines(number, message, first, start)
+    return lines, first[0] if first else "accepted"
 
 
 # Messages
@@ -375,14 +418,14 @@ def compare_lines(options, stream, first, seen, filtered):
     words = options.split()
     given = b"".join(stream)
     out, err, status = outputs([PROGRAM, "explain", *words], packed(given) if "--packed" in words else given)
-    got = re.split(r"^(?=message )", out.decode(), flags=re.M)[1:]
+    got = re.split(r"^(?=message \d+: (?:accepted|refused) )", out.decode(), flags=re.M)[1:]
     compare(f"{options}: messages from {first}", (len(stream), b""), (len(got), err))
     reasons, start = Counter(), 0
     for number, (frame, text) in enumerate(zip(stream, got)):
         lines, reason = lines_of(number, segments_of(frame), words, (start, "--packed" in words))
         start += len(frame)
         reasons[reason] += 1
-        if reason == "accepted" and lines[1:]:
+        if lines[1:] and lines[1].startswith("  filter"):
             filtered[lines[1].split()[8]] += 1
         compare(f"capvet explain {options}, {frame.hex()[:400]}", "\n".join(lines) + "\n", text)
     compare(f"the status with {options}", int(reasons.total() > reasons["accepted"]), status)
@@ -397,6 +440,17 @@ def compare_overlaps(many):
         compare_lines("--exclusive", stream[at:at + RUN], at, seen, Counter())
     print(f"overlaps: {seen['Overlap']} among {many} messages, {seen['accepted']} accepted")
     expect("overlaps among these messages", 2 * seen["Overlap"] >= many, seen)
+
+
+def compare_differences(many):
+    """Runs of the program over messages that are nearly canonical."""
+    chance, seen = random.Random("differences"), Counter()
+    stream = [differences.made(chance) for _ in range(many)]
+    for at in range(0, many, RUN):
+        compare_lines(CANONICAL[at // RUN % len(CANONICAL)], stream[at:at + RUN], at, seen, Counter())
+    print("differences:", ", ".join(f"{reason} {seen[reason]}" for reason in DIFFERENCES), "and", seen["accepted"], "canonical")
+    for reason in (*DIFFERENCES, "accepted"):
+        expect(f"{reason} among the differences", seen[reason] >= 20, f"{seen[reason]} times")
 
 
 # Streams that break off
@@ -433,8 +487,38 @@ def table_of(words):
     return count, long, struct.unpack_from(f"<{count}I", b"".join(word for word, _ in words[:long]), 4)
 
 
+# The bytes of text.
+TEXT = frozenset(b"\t\n\r") | frozenset(range(0x20, 0x7f))
+
+
+def first_guess(head, is_packed):
+    """What an input may be, by the four bytes with which it begins: those of its first word, if it is read as packed."""
+    if is_packed:
+        # (the first byte of gzip and of TLS is a tag, and says where in the word those after it are)
+        return "like gzip: decompress it first" if head[:2] == b"\x8b\x08" else (
+            "like TLS: decrypt it first" if head[:2] == b"\0\3" and head[2] <= 4 and head[3] == 0 else None)
+    if head[:3] == b"\x1f\x8b\x08":
+        return "like gzip: decompress it first"
+    if 20 <= head[0] <= 23 and head[1] == 3 and head[2] <= 4:
+        return "like TLS: decrypt it first"
+    if TEXT.issuperset(head) and (head[:1], head[3:]) != (b"0", b"P"):
+        return "like text"
+    # (the tag of a table of at most 256 segments, and the first byte of what it says)
+    return "packed: try --packed" if head[0] & 0x8e == 0 and head[0] & 0x70 and head[1] else None
+
+
+def guess_lines(number, start, head, is_packed):
+    """The line of what an input may be that breaks off at a message of this number and place, in a list. `head` has the first four
+    bytes of that message if they say too many segments."""
+    guess = first_guess(head, is_packed) if head and number == 0 else None
+    if is_packed and start < 4 * number:
+        guess = "unpacked: try it without --packed"
+    return [f"capvet: the input looks {guess}"] if guess else []
+
+
 def break_lines(text, is_packed, limit):
-    """How many messages of an input are whole, and what standard error says of the one at which it breaks off, if it does."""
+    """How many messages of an input are whole, and what standard error says of the one at which it breaks off, if it does. A guess
+    may come last."""
     words, is_cut = words_of_input(text, is_packed)
     number, start = 0, 0
     while words or is_cut:
@@ -442,19 +526,21 @@ def break_lines(text, is_packed, limit):
         where = f"  message at byte {start} of the {'packed ' * is_packed}input"
         if count is not None and count > 512:
             return number, [f"capvet: message {number}: TooManySegments {count}", where, f"  segments {count}, limit 512",
-                            "  reason the first word of the message says more segments than a message may have"]
+                            "  reason the first word of the message says more segments than a message may have",
+                            *guess_lines(number, start, words[0][0][:4], is_packed)]
         reported = [] if sizes is None else [f"  table segments {count}, words {sum(sizes)}"]
         if sizes is not None and sum(sizes) > limit:
             return number, [f"capvet: message {number}: TooLarge {sum(sizes)}", where, *reported,
                             f"  words {sum(sizes)}, limit {limit}",
-                            "  reason the segments together have more words than the limit allows"]
+                            "  reason the segments together have more words than the limit allows",
+                            *guess_lines(number, start, b"", is_packed)]
         if sizes is None or len(words) < long + sum(sizes):
             needed = "" if sizes is None else f", needed {8 * (long + sum(sizes))}{' unpacked' * is_packed}"
             place, part = "segment table" if sizes is None else "segments", "packed group" if is_packed else "word"
             end = f", and inside a {part}" if is_cut else f", between two {part}s"
             return number, [f"capvet: message {number}: Truncated at byte {len(text)}", where, *reported,
                             f"  bytes there {len(text) - start}{' packed' * is_packed}{needed}",
-                            f"  reason the input ends inside the {place}{end}"]
+                            f"  reason the input ends inside the {place}{end}", *guess_lines(number, start, b"", is_packed)]
         start, words, number = words[long + sum(sizes) - 1][1], words[long + sum(sizes):], number + 1
     return number, []
 
@@ -475,25 +561,74 @@ def broken_stream(chance, stream):
     return text
 
 
+def foreign(chance, stream, is_packed):
+    """Bytes that are no stream of messages in this form."""
+    text = b"".join(chance.choice(stream) for _ in range(chance.randrange(1, 4)))
+    return chance.choice((
+        gzip.compress(text), bytes((chance.randrange(20, 24), 3, chance.randrange(6))) + chance.randbytes(40),
+        bytes(chance.choice(sorted(TEXT)) for _ in range(chance.randrange(1, 40))),
+        b"0" + bytes(chance.choice(sorted(TEXT)) for _ in range(2)) + b"P" + chance.randbytes(20), chance.randbytes(40),
+        text if is_packed else packed(text)))
+
+
+def in_form(chance, text, is_packed):
+    """A stream in the form that is asked for. A packed one is often cut."""
+    if not is_packed:
+        return text
+    text = packed(text + bytes(-len(text) % 8))
+    return text[:chance.randrange(len(text) + 1)] if chance.random() < 0.7 else text
+
+
+# The commands that guess as `explain` does, and explain nothing.
+GUESSING = (["hash"], ["filter"], ["hash", "--json"], ["filter", "--exclusive"])
+# What the first bytes may say of an input that is read as it is, and of one that is read as packed.
+GUESSES = {False: ("like gzip: decompress it first", "like TLS: decrypt it first", "like text", "packed: try --packed"),
+           True: ("like gzip: decompress it first", "like TLS: decrypt it first", "unpacked: try it without --packed")}
+
+
+def compare_guesses(command, text, lines):
+    """One run of a command that guesses, over a stream on which `explain` writes these lines."""
+    _, err, status = outputs([PROGRAM, *command], text)
+    # (how few bytes the messages have is known to `explain` alone)
+    said = [line for line in lines if line.startswith("capvet: ") and not line.endswith("without --packed")]
+    got = [line for line in err.decode().splitlines() if line.startswith("capvet: ")]
+    compare(f"capvet {command}, {text.hex()[:400]}", (said, True), (got, status == 1 or not lines))
+
+
 def compare_breaks(stream, many):
     """Runs of the program over streams that break off."""
-    chance, seen = random.Random("breaks"), Counter()
+    chance, seen, guessed = random.Random("breaks"), Counter(), Counter()
     small = [frame for frame in stream if len(frame) < 2000]
-    for number in range(many):
-        text, limit = broken_stream(chance, small), chance.choice((8388608, 8388608, 3, 20))
-        is_packed, options = number % 2 == 1, ["--exclusive"] * (number % 3 == 0) + ["--size", str(limit)]
-        if is_packed:
-            text = packed(text + bytes(-len(text) % 8))
-            text = text[:chance.randrange(len(text) + 1)] if chance.random() < 0.7 else text
+    for number in range(2 * many):
+        limit, is_packed = chance.choice((8388608, 8388608, 3, 20)), number % 2 == 1
+        options = ["--exclusive"] * (number % 3 == 0) + ["--size", str(limit)]
+        text = in_form(chance, broken_stream(chance, small), is_packed) if number < many else foreign(chance, small, is_packed)
         out, err, status = outputs([PROGRAM, "explain", *options, *["--packed"] * is_packed], text)
         whole, lines = break_lines(text, is_packed, limit)
         compare(f"capvet explain {options}, packed {is_packed}, {text.hex()[:400]}",
                 (whole, "".join(f"{line}\n" for line in lines)), (len(re.findall(rb"^message ", out, re.M)), err.decode()))
         expect("the status of a stream that breaks off", not lines or status == 1, status)
-        seen[re.sub(r"\d+", "N", " ".join((lines or ["whole"])[0].split()[3:4] + lines[-1:]))] += 1
+        compare_guesses([*GUESSING[number // 2 % len(GUESSING)], "--size", str(limit), *["--packed"] * is_packed], text, lines)
+        reason = [line for line in lines if line.startswith("  reason ")]
+        seen[re.sub(r"\d+", "N", " ".join((lines or ["whole"])[0].split()[3:4] + reason))] += 1
+        guessed[is_packed, lines[-1].partition(" looks ")[2] if lines else ""] += 1
+    for is_packed, guesses in GUESSES.items():
+        for guess in guesses:
+            expect(f"guesses, packed {is_packed}: {guess}", guessed[is_packed, guess] >= many // 100, guessed)
     for name, times in sorted(seen.items()):
         print(f"{times} {name}")
     expect("each end of a stream", len(seen) >= 11 and min(seen.values()) >= many // 200, seen)
+
+
+def of_libraries(text):
+    """What the libraries say of each message, by what `capvet explain` prints of a stream: the verdict, and the lines that explain it.
+    They know no input."""
+    text = re.sub(r", byte \d+ of the (unpacked )?input$", "", text, flags=re.M)
+    for part in re.split(r"^message \d+: ", text, flags=re.M)[1:]:
+        verdict, *lines = part.splitlines()
+        if verdict.startswith("accepted"):
+            lines = []
+        yield verdict, "".join(f"{line}\n" for line in lines)
 
 
 def limits_of(words, has_table):
@@ -505,39 +640,63 @@ def limits_of(words, has_table):
     return model.Limits(charge=charge, depth=depth, flags=flags)
 
 
-def reported_of(frame, words, has_table):
-    """The text on a message and the place of the refusal, or nothing and zeros if it is accepted."""
+# The lines of inputs that are no message and nothing else.
+FRAME_SENTENCES = {"NO_MESSAGE": "the input is empty",
+                   "TOO_MANY_SEGMENTS": "the first word of the message says more segments than a message may have",
+                   "TOO_LARGE": "the segments together have more words than the limit allows",
+                   "TRUNCATED": "the input ends inside the message", "TRAILING": "bytes follow the message"}
+FRAME_LINES = {model.ANSWERS[name]: f"  reason {sentence}\n" for name, sentence in FRAME_SENTENCES.items()}
+
+
+def text_of(frame, words, has_table):
+    """The text on a message, which is nothing if it is accepted."""
     lines, reason = lines_of(0, segments_of(frame), words, None, has_table)
-    if reason == "accepted":
-        return "", (0, 0, 0)
-    return "".join(f"{line}\n" for line in lines[1:]), tuple(map(int, re.findall(r"\d+", lines[0].partition(" at ")[2])))
+    return "" if reason == "accepted" else "".join(f"{line}\n" for line in lines[1:])
 
 
-def input_of(frame, has_table):
-    """The bytes that a call gets of a message."""
-    return frame if has_table else frame[8:]
+def input_of(frame, has_table, chance):
+    """The bytes that a call gets of a message. Some are cut, some have more bytes after them, and some claim other segments."""
+    given, kind = frame if has_table else frame[8:], chance.randrange(30)
+    if kind == 0:
+        return given[:chance.choice((0, chance.randrange(len(given) + 1)))]
+    if kind == 1:
+        return given + bytes(chance.randrange(1, 9))
+    if kind == 2 and has_table:
+        return struct.pack("<I", chance.choice((511, 512, 600, 1, 0xFFFFFFFF))) + given[4:]
+    if kind == 3 and has_table:
+        return given[:4] + b"\xff" * 4 + given[8:]
+    return given
 
 
-def compare_calls(built, options, stream, first, chance):
+def reply_of(given, words, limits, size, has_table):
+    """What a call replies, with the answer and the report of capvet_vet."""
+    answer, _, report, _ = model.called(model.VET, given, limits, 0)
+    text = FRAME_LINES.get(answer, "")
+    if answer >= model.ANSWERS["NOT_CANONICAL"]:
+        text = text_of(given if has_table else struct.pack("<II", 0, len(given) // 8) + given, words, has_table)
+    # (a size below zero is counted from the length of the text)
+    size = max(0, len(text) + 1 + size) if size < 0 else size
+    return size, answer, REPLY.pack(answer, len(text), *report, *[0] * model.RESERVED) + text.encode() * (len(text) <= size)
+
+
+def compare_calls(built, options, stream, first, chance, answers):
     """One run of tests/c/explain.c over some messages. Half of those of one segment, if it has words, have no table."""
     words = [word for word in options.split() if word != "--exclusive"]
     tables = [len(frame) == 8 or frame[:4] != bytes(4) or chance.random() < 0.5 for frame in stream]
-    texts = [reported_of(frame, words, has_table) for frame, has_table in zip(stream, tables)]
-    sizes = [chance.choice((BOUND, 1000, 400, 250, 90, 0, len(reported), max(len(reported) - 1, 0))) for reported, _ in texts]
-    inputs = [input_of(frame, has_table) for frame, has_table in zip(stream, tables)]
+    inputs = [input_of(frame, has_table, chance) for frame, has_table in zip(stream, tables)]
+    limits = [limits_of(words, has_table) for has_table in tables]
+    replies = [reply_of(given, words, limit, chance.choice((BOUND, 1000, 400, 250, 90, 0, -1, -2)), has_table)
+               for given, limit, has_table in zip(inputs, limits, tables)]
     out, err, status = over_file([built], b"".join(
-        limits_of(words, has_table).packed() + struct.pack("<3I", size, chance.randrange(8), len(given)) + given
-        for size, given, has_table in zip(sizes, inputs, tables)))
+        limit.packed() + struct.pack("<3I", size, chance.randrange(8), len(given)) + given
+        for (size, _, _), given, limit in zip(replies, inputs, limits)))
     compare(f"capvet_explain, {options}: messages from {first}", (0, b""), (status, err))
     expect("messages without a table", not all(tables), tables)
     at = 0
-    for frame, given, size, (reported, place) in zip(stream, inputs, sizes, texts):
-        expected = NO_NODE if not reported else OK if len(reported) <= size else BUFFER_TOO_SMALL
-        fields = dict.fromkeys(model.FIELDS, 0) | dict(zip(("segment", "word", "pointers"), place))
-        fields |= dict(length=len(given), segments=len(segments_of(frame)))
-        reply = REPLY.pack(expected, len(reported), *fields.values(), 0, 0, 0, 0) + reported.encode() * (expected == OK)
+    for given, (size, answer, reply) in zip(inputs, replies):
         compare(f"capvet_explain {options} {size}, {given.hex()[:400]}", reply, out[at:at + len(reply)])
         at += len(reply)
+        answers[answer] += 1
     compare(f"capvet_explain, {options}: replies from {first}", at, len(out))
 
 
@@ -545,13 +704,70 @@ def explained_in_c(stream):
     """All messages, explained by the call."""
     if missing("explanations from C", "cc"):
         return
-    chance, checks = random.Random("calls"), CHECKS
+    chance, checks, answers = random.Random("calls"), CHECKS, Counter()
     if missing("explanations from C with the compiler's checks", "checks-gcc"):
         checks = []
     with tempfile.TemporaryDirectory() as folder:
         built = compiled(Path(folder), "explain", "cc", "c11", ARCHIVE, *checks)
         for at in range(0, len(stream) if built else 0, RUN):
-            compare_calls(built, OPTIONS[at // RUN % len(OPTIONS)], stream[at:at + RUN], at, chance)
+            compare_calls(built, OPTIONS[at // RUN % len(OPTIONS)], stream[at:at + RUN], at, chance, answers)
+        for name in FRAME_SENTENCES:
+            expect(f"inputs that are {name}", not built or answers[model.ANSWERS[name]] >= 3, answers)
+
+
+# The most bytes of the lines of an overlap, and the answers of their call.
+OVERLAP_BOUND = 12288
+OVERLAP_ANSWERS = model.ANSWERS | dict(NO_NODE=21)
+
+
+def overlap_request(chance):
+    """A message, the limits, a pointer with its place, and what the call replies to it, for a buffer of a size."""
+    frame = shared(chance)
+    has_table = frame[:4] != bytes(4) or len(frame) == 8 or chance.random() < 0.5
+    limits = model.Limits(flags=model.NONSTRICT | model.AMPLIFIED | model.NO_TABLE * (not has_table), depth=chance.choice((64, 64, 256, 3)))
+    given = input_of(frame, has_table, chance)
+    answer, _, fields, _ = model.called(model.EXCLUSIVE, given, limits, 1 << 20)
+    report = dict(zip(model.FIELDS, fields))
+    if answer != model.ANSWERS["OVERLAP"]:
+        return None
+    number = report["pointers"] if chance.randrange(5) else chance.randrange(report["pointers"] + 1)
+    message = segments_of(given if has_table else struct.pack("<II", 0, len(given) // 8) + given)
+    lines, (segment, at) = "", (0, 0)
+    if number > 0:
+        (segment, at), _ = model.vetted(message, 1 << 28, limits.depth).steps[number - 1]
+        lines = "".join(f"  {line}\n" for line in explanation(message, "Overlap", segment, at, number, 0, 0, None, has_table))
+    size = chance.choice((OVERLAP_BOUND, 1000, 0, len(lines), max(len(lines) - 1, 0)))
+    name = "NO_NODE" if number == 0 else "OK" if len(lines) <= size else "BUFFER_TOO_SMALL"
+    extent = (report[name] if name in ("length", "segments", "words") else 0 for name in model.FIELDS)
+    reply = REPLY.pack(OVERLAP_ANSWERS[name], len(lines), *extent, *[0] * model.RESERVED) + lines.encode() * (name == "OK")
+    head = limits.packed() + struct.pack("<Q5I", number, segment, at, size, chance.randrange(8), len(given)) + given
+    return name, has_table, head, reply
+
+
+def overlaps_in_c(many):
+    """Pointers that are explained as overlaps by the call."""
+    if missing("overlaps from C", "cc"):
+        return
+    chance, checks, seen = random.Random("overlaps in C"), CHECKS, Counter()
+    if missing("overlaps from C with the compiler's checks", "checks-gcc"):
+        checks = []
+    requests = [it for it in (overlap_request(chance) for _ in range(many)) if it]
+    with tempfile.TemporaryDirectory() as folder:
+        built = compiled(Path(folder), "overlaps", "cc", "c11", ARCHIVE, *checks)
+        if not built:
+            return
+        out, err, status = over_file([built], b"".join(head for _, _, head, _ in requests))
+    compare("capvet_explain_overlap", (0, b""), (status, err))
+    at = 0
+    for name, has_table, head, reply in requests:
+        compare(f"capvet_explain_overlap {head.hex()[:600]}", reply, out[at:at + len(reply)])
+        at += len(reply)
+        seen[name, has_table] += 1
+    compare("capvet_explain_overlap: the replies", at, len(out))
+    for name in ("OK", "NO_NODE", "BUFFER_TOO_SMALL"):
+        for has_table in (True, False):
+            expect(f"{name} of messages with a table: {has_table}", seen[name, has_table] >= many // 200, seen)
+    print("capvet_explain_overlap:", ", ".join(f"{name} {count}" for (name, _), count in sorted(seen.items())))
 
 
 def main():
@@ -559,7 +775,9 @@ def main():
     for at in range(0, len(stream), RUN):
         compare_lines(OPTIONS[at // RUN % len(OPTIONS)], stream[at:at + RUN], at, seen, filtered)
     compare_overlaps(MANY)
+    compare_differences(3 * MANY)
     explained_in_c(stream)
+    overlaps_in_c(MANY)
     compare_breaks(stream, MANY // 5)
     for reason, least in LEAST.items():
         expect(f"{reason} among the refusals", seen[reason] >= least, f"{seen[reason]} times, and not {least}")

@@ -39,6 +39,7 @@ import demands
 import readers
 import trees
 from amount import cases
+from clap_texts import spare
 from harness import PROGRAM, TOP, compare, ended, expect, framed, outputs, table
 from made import made_up
 from needs import missing
@@ -46,9 +47,8 @@ from packing import packed
 
 MANY = cases(5_000, full=10_000)  # changed messages
 MIB = 1 << 20
-# How many MiB a program has resident beside its messages. (Which pages of its files and of the C library these are depends on
-# what the system has read ahead, so a few tens of KiB come and go)
-SPARE = 3
+# How many MiB the program has resident beside its messages.
+SPARE = spare(PROGRAM)
 SECONDS = 60
 FAILED = b"capvet: output failed\n"
 # The options over all changed messages. `vet` has the first two as --strict and --unamplified.

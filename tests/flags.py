@@ -11,16 +11,16 @@ import model
 import strict
 from harness import compare, expect, framed, over_file
 from made import changed, made_up
-from model import (AMPLIFIED, ANSWERS, CANONICAL, EXCLUSIVE, FIELDS, FRAME, IS_CANONICAL, NO_TABLE, NONSTRICT, SEGMENT_AT, SLACK, VET,
-                   VET_SEGMENTS, Limits)
+from model import (AMPLIFIED, ANSWERS, CANONICAL, CHECK_WORDS, EXCLUSIVE, FIELDS, FRAME, NO_TABLE, NONSTRICT, REPORT, RESERVED, SEGMENTS, SLACK,
+                   VET, VET_SEGMENTS, Limits)
 
-MANY = 20_000
+MANY = 24_000
 # In place of a size: that of CAPVET_CANONICAL_BOUND.
 BOUND = 0xFFFFFFFF
 # `required` of a call that has none, and a report's fields with the reserved ones
-REPLY = struct.Struct("<IQ6Q4I4Q")
-CALLS = ("capvet_frame", "capvet_vet", "capvet_vet_exclusive", "capvet_canonical", "capvet_is_canonical",
-         "capvet_segment_at", "capvet_vet_segments")
+REPLY = struct.Struct(f"<IQ{REPORT}")
+CALLS = ("capvet_frame", "capvet_vet", "capvet_vet_exclusive", "capvet_canonical", "capvet_check_canonical",
+         "capvet_segments", "capvet_vet_segments", "capvet_check_canonical_words", "capvet_first_difference")
 
 
 def words_of(message):
@@ -44,6 +44,8 @@ def asked(call, data, limits, size):
     """A call over this input, which is given in the form that the call takes."""
     if call == VET_SEGMENTS:
         data, size = separated(data)
+    if call == CHECK_WORDS and not limits.flags & NO_TABLE:
+        data = words_of(data)
     return call, data, limits, size
 
 
@@ -67,7 +69,8 @@ def amplified():
 CYCLE = framed([0x00010000FFFFFFFC])
 SHARED = framed([2 << 48, 4 | 1 << 32, 1 << 32, 7])
 OTHERS = ((CYCLE, "DEPTH_LIMIT"), (SHARED, "OVERLAP"), (framed([0]), "OK"), (framed([]), "NO_ROOT"), (b"", "NO_MESSAGE"),
-          (struct.pack("<II", 512, 0), "TOO_MANY_SEGMENTS"))
+          (struct.pack("<II", 512, 0), "TOO_MANY_SEGMENTS"), (framed([1 | 7 << 32, 1]), "COMPOSITE_TAG"),
+          (framed([1 | 7 << 32, 1 << 2 | 1 << 32]), "COMPOSITE_OVERRUN"))
 # The first bytes of a message, and how many of them are needed where these are too few. A message of one segment with a word
 # after it, one of two segments with padding, and the table of 512 segments.
 ONE, TWO = framed([7, 8, 9]) + bytes(8), struct.pack("<IIII3Q", 1, 1, 2, 0xEEEEEEEE, 7, 8, 9)
@@ -81,7 +84,7 @@ def are_as_named():
     """The messages are what they are made for: by hand, or by the charge of the model."""
     for message, fault in NOT_STRICT:
         answer, _, report, _ = model.called(VET, message, Limits(), 0)
-        got = report[-2:] + report[4:5]
+        got = report[8:10] + report[4:5]
         expect(f"the fault of {message.hex()}", (answer, got) == (ANSWERS[fault[0]], fault[1:]) if fault else answer == 0,
                f"{answer} {got}")
         expect(f"{message.hex()}, accepted", model.called(VET, message, Limits(flags=NONSTRICT), 0)[0] == 0)
@@ -112,8 +115,8 @@ def requests(small, chance):
                     yield asked(call, message + bytes(count), Limits(flags=flags), chance.choice((0, 1, 1 << 16)))
     for message in (*small, *bound):
         yield CANONICAL, message, Limits(), BOUND
-    for limits in (Limits(flags=16), Limits(flags=1 << 31), Limits(flags=31), Limits(flags=24), Limits(reserved=(1, 0)),
-                   Limits(reserved=(0, 1 << 63)), Limits(message_words=(1 << 28) + 1), Limits(charge=(1 << 28) + 1),
+    for limits in (Limits(flags=16), Limits(flags=1 << 31), Limits(flags=31), Limits(flags=24), Limits(padding=1), *(Limits(reserved=(0,) * at + (1 << 63,) + (0,) * (5 - at)) for at in range(6)),
+                   Limits(message_words=(1 << 28) + 1), Limits(charge=(1 << 28) + 1),
                    Limits(depth=257), Limits(message_words=1 << 28, charge=1 << 28, depth=256, flags=7)):
         for call in range(len(CALLS)):
             for message in (SHARED, b""):
@@ -131,9 +134,9 @@ def requests(small, chance):
         if limits.flags & NO_TABLE and chance.randrange(4):
             message = words_of(message)
         call, size = chance.randrange(len(CALLS)), chance.choice((0, 1 << 12))
-        if call == SEGMENT_AT:
-            size = chance.choice((0, 0, 1, 2, 3))
-        if call in (EXCLUSIVE, CANONICAL) and chance.randrange(2):
+        if call == SEGMENTS:
+            size = chance.choice((0, 1, 2, 3, 512))
+        if call in (EXCLUSIVE, CANONICAL, SEGMENTS) and chance.randrange(2):
             # a buffer that just suffices, or is one too small
             least = model.called(call, message, limits, 1 << 20)[1]
             size = max(0, least - chance.randrange(2))
@@ -152,7 +155,7 @@ def that_hold(many, chance):
     counts = Counter()
     for call, data, limits, size in many:
         # (a tenth of them, and no large message)
-        if chance.randrange(10) or len(data) > 2000 or call == SEGMENT_AT:
+        if chance.randrange(10) or len(data) > 2000:
             continue
         answer, required, _, out = model.called(call, data, limits, size)
         if answer != 0:
@@ -163,10 +166,11 @@ def that_hold(many, chance):
         counts[call] += 1
         yield call, data, more, size
         if call == CANONICAL:
-            words = Limits(max(limits.message_words, len(out) // 8), limits.charge, limits.depth, NO_TABLE | AMPLIFIED)
-            expect(lambda: f"the canonical form of {data.hex()} with {words}", model.called(IS_CANONICAL, out, words, 0)[0] == 0)
-            yield IS_CANONICAL, out, words, 0
-    expect("calls with wider limits, of each kind", len(counts) == len(CALLS) - 1 and min(counts.values()) >= 20, counts)
+            # (the words of the form may be more than those of the message)
+            expect(lambda: f"the canonical form of {data.hex()} with {limits}", model.called(CHECK_WORDS, out, limits, 0)[0] == 0)
+            counts[CHECK_WORDS] += 1
+            yield CHECK_WORDS, out, limits, 0
+    expect("calls with wider limits, of each kind", len(counts) == len(CALLS) and min(counts.values()) >= 20, counts)
 
 
 def compare_calls(program, many):
@@ -183,11 +187,12 @@ def compare_calls(program, many):
         answer, required, *fields = REPLY.unpack_from(replies, at)
         at += REPLY.size
         expected, least, report, out = model.called(call, data, limits, size)
-        got = replies[at:at + required] if call == CANONICAL and answer == ANSWERS["OK"] else b""
+        items = {CANONICAL: 1, SEGMENTS: 16}.get(call, 0) * (answer == ANSWERS["OK"])
+        got = replies[at:at + items * required]
         at += len(got)
         answers[call, answer] += 1
         # the report as the header has it, and its reserved fields
-        expected_fields = [*report, 0, 0, 0, 0]
+        expected_fields = [*report, *[0] * RESERVED]
         expect(lambda: f"{CALLS[call]} of {data.hex()} with {limits} and {size}",
                (answer, required, fields, got) == (expected, least, expected_fields, out),
                lambda: f"expected {expected} {least} {dict(zip(FIELDS, report))} {out.hex()}\n"

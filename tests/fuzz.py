@@ -7,12 +7,11 @@
     fuzz.py PROGRAM ARCHIVE --faults [TARGET..]       puts faults into a copy: each has to be found
     fuzz.py PROGRAM ARCHIVE --keep [TARGET..]         adds inputs of build/fuzz to the corpus that reach something new
 
-Inputs that reach something new are kept in build/fuzz, and so are those of findings: later runs begin with them. The corpus in
-the repository is tests/fuzz/corpus. A line says what isn't tested for lack of something. The last line is 'N passed, M failed';
+Inputs that reach something new are kept in build/fuzz, and so are those of findings: later runs begin with them. fuzz_corpus.py
+makes the corpus, with the inputs of tests/fuzz/found.zip. A line says what isn't tested for lack of something. The last line is 'N passed, M failed';
 the status is 1 where something was found, or where a fault wasn't.
 """
 import argparse
-import hashlib
 import os
 import sys
 import tempfile
@@ -61,9 +60,8 @@ def report(target, result, least):
 
 def replay(tree, targets):
     """Each input of the corpus, by each target."""
-    compare("the corpus is what tests/fuzz_corpus.py makes", True, fuzz_corpus.is_current())
     compare("each fault has its place", [], fuzz_faults.displaced())
-    least = 4 if not targets else len(list(fuzz_corpus.CORPUS.iterdir())) // 2
+    least = 4 if not targets else len(list(tree.corpus.iterdir())) // 2
     with tempfile.TemporaryDirectory() as folder:
         for target, result in side_by_side(lambda it: it.replay(tree, Path(folder) / it.name), targets):
             report(target, result, least if target.uses_corpus else 1)
@@ -109,8 +107,7 @@ def keep(tree, targets):
         for target in (it for it in targets if hasattr(it, "merged")):
             (KEPT / target.name).mkdir(parents=True, exist_ok=True)
             found = target.merged(tree, KEPT / target.name, Path(folder) / target.name)
-            for data in found:
-                (fuzz_corpus.CORPUS / f"{fuzz_corpus.FOUND}{hashlib.sha1(data).hexdigest()[:10]}").write_bytes(data)
+            fuzz_corpus.add(found)
             print(f"fuzz: {target.name}: {len(found)} inputs were added to the corpus", flush=True)
 
 

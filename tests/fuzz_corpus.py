@@ -1,13 +1,17 @@
 #!/usr/bin/env python3
-"""The inputs that fuzzing begins with, in tests/fuzz/corpus.
+"""The inputs that fuzzing begins with: the corpus.
 
-    fuzz_corpus.py            writes those that are made here, and removes others that were made
+    fuzz_corpus.py FOLDER     writes them into a folder, a file each
 
 An input is 16 bytes of arguments, which are 0 here, and then a message or a stream: see tests/fuzz/fuzz.h. Made here are the
-samples, the least message for each reason and for each set of forms that a message of the tables has, and packed texts. Inputs
-whose names begin with `found-` are those that fuzzing found; they stay as they are.
+samples, the least message for each reason and for each set of forms that a message of the tables has, and packed texts. Those that
+fuzzing found are in tests/fuzz/found.zip.
 """
+import hashlib
 import struct
+import sys
+import zipfile
+from pathlib import Path
 
 import messages
 import model
@@ -16,9 +20,8 @@ import tables
 from harness import TOP, framed
 from made import samples
 
-CORPUS = TOP / "tests/fuzz/corpus"
+FOUND = TOP / "tests/fuzz/found.zip"
 ARGUMENTS = bytes(16)
-FOUND = "found-"
 # The words of a message that is larger than 8 KiB.
 LARGE = 1100
 # Flags and kinds of runs of a guard: see guard/fuzz_run_test.go.
@@ -126,21 +129,26 @@ def made():
     return {name: ARGUMENTS + data for name, data in found.items()} | dict(each_way())
 
 
-def is_current():
-    """Whether the corpus has just what is made here, and what fuzzing found."""
-    there = {path.name: path.read_bytes() for path in CORPUS.iterdir() if not path.name.startswith(FOUND)}
-    return there == made()
+def found():
+    """The inputs that fuzzing found, by their names."""
+    with zipfile.ZipFile(FOUND) as archive:
+        return {name: archive.read(name) for name in archive.namelist()}
 
 
-def main():
-    inputs = made()
-    CORPUS.mkdir(exist_ok=True)
-    for path in CORPUS.iterdir():
-        if not path.name.startswith(FOUND):
-            path.unlink()
-    for name, data in inputs.items():
-        (CORPUS / name).write_bytes(data)
+def add(inputs):
+    """Adds inputs to those that were found. The same inputs give the same archive."""
+    whole = found() | {f"found-{hashlib.sha1(data).hexdigest()[:10]}": data for data in inputs}
+    with zipfile.ZipFile(FOUND, "w", zipfile.ZIP_DEFLATED) as archive:
+        for name, data in sorted(whole.items()):
+            archive.writestr(zipfile.ZipInfo(name), data, zipfile.ZIP_DEFLATED)
+
+
+def write(folder):
+    """Writes the corpus into a new folder."""
+    folder.mkdir(parents=True)
+    for name, data in (found() | made()).items():
+        (folder / name).write_bytes(data)
 
 
 if __name__ == "__main__":
-    main()
+    write(Path(sys.argv[1]))

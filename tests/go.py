@@ -5,7 +5,7 @@
 
 Its tests run with the race detector and compare it with PROGRAM: verdicts, explanations, trees, segments, canonical and packed
 forms. The inputs are samples, cut streams, changed tables, and changed messages under five sets of limits. `GetRange` gives the nodes
-and the errors of `Get`. A scanner reads no byte after a plain frame, and a message is there while a part of the next one has
+and the errors of `Get`. A build without cgo says what is missing. A scanner reads no byte after a plain frame, and a message is there while a part of the next one has
 come, wherever that is cut. Over a socket each message is there before the next is sent. A claim of 64 MiB without its words
 allocates less than 256 KiB, and a scanner that waits holds no large buffer. A module outside of the repository imports the
 package, and another one imports that module. The example and the commands of docs/go.md write what the
@@ -28,6 +28,22 @@ from needs import missing
 
 # The most that a call from Go takes above the same call from C, in nanoseconds.
 OVERHEAD = 200
+# How many snippets docs/go.md has beside its program. The first one is a service.
+SNIPPETS = 6
+# A line of that service without which it doesn't compile.
+NEEDED = re.compile(r"^\t(message|b|reader|reader\..*), .* :?= .*\n", re.M)
+# What a reader has, for a service that compiles without it.
+STAND_IN = """package capnp
+
+// Message has the limits of a reader.
+type Message struct {
+	TraverseLimit uint64
+	DepthLimit    uint
+}
+
+// Unmarshal returns no message.
+func Unmarshal([]byte) (*Message, error) { return new(Message), nil }
+"""
 MODULES = ("bindings/go", "examples/go", "tests/go/cost")
 COUNTS = ["-changed", "20000", "-cuts", "1"] if IS_FULL else []
 PATH = "capvet.invalid/capvet"
@@ -38,8 +54,8 @@ import "{PATH}"
 
 // Charge returns the charge of a message.
 func Charge(b []byte) (uint64, error) {{
-	report, err := capvet.Vet(b, capvet.Limits{{}})
-	return report.Charge, err
+	message, err := capvet.Vet(b, nil)
+	return message.Report().Charge, err
 }}
 """
 MAIN = """package main
@@ -63,7 +79,7 @@ func main() {
 def go(name, words, folder, environment):
     """Runs a command of Go, which has to end with status 0. What it wrote."""
     # (the first time Go builds its own library for the race detector)
-    text, status = run(["go", *words], timeout=600, cwd=folder, env=environment)
+    text, status = run(["go", *words], timeout=3600, cwd=folder, env=environment)
     compare(name, 0, status)
     if status:
         print(text)
@@ -76,7 +92,7 @@ def tested(top, environment):
         compare(f"gofmt -l {module}", ("", 0), run(["gofmt", "-l", "."], cwd=top / module))
         go(f"go vet {module}", ["vet", "./..."], top / module, environment)
         checked(module, top, environment)
-    words = ["test", "-race", "-count=1", "-v", ".", "-program", str(PROGRAM), *COUNTS]
+    words = ["test", "-race", "-count=1", "-timeout", "55m", "-v", ".", "-program", str(PROGRAM), *COUNTS]
     text = go("go test -race", words, top / "bindings/go", {**environment, "GODEBUG": "cgocheck=1"})
     cases = re.findall(r"^--- (\w+): (\w+)", text, re.M)
     for verdict, case in cases:
@@ -90,6 +106,13 @@ def checked(module, top, environment):
     if not missing(f"that staticcheck finds nothing in {module}", "go-staticcheck"):
         cache = {"XDG_CACHE_HOME": environment["HOME"]}
         compare(f"staticcheck {module}", ("", 0), run(["go-staticcheck", "./..."], cwd=top / module, env={**environment, **cache}))
+
+
+def without_cgo(top, environment):
+    """A build without cgo says what is missing."""
+    text, status = run(["go", "build", "."], cwd=top / "bindings/go", env={**environment, "CGO_ENABLED": "0"})
+    compare("the status of a build without cgo", True, status != 0)
+    compare("a build without cgo names what is missing", True, "capvet_needs_cgo_and_a_C_compiler" in text)
 
 
 def imported(top, folder, environment):
@@ -136,22 +159,40 @@ def timed(top, folder, environment):
 
 
 def as_shown(top, environment):
-    """The commands of docs/go.md run word for word, and its program and its snippet are built."""
+    """The commands of docs/go.md run word for word, and its program and its snippets are built."""
     page = (TOP / "docs/go.md").read_text()
     first, *others = re.search(r"^```sh\n(.*?)^```$", page, re.M | re.S)[1].splitlines()
     # (it is installed already, by `make` without a toolchain)
     compare("the first command of docs/go.md", "make install PREFIX=$HOME/x", first)
     compare("the commands of docs/go.md", 0, run(["sh", "-ec", "\n".join(others)], cwd=top, env=environment)[1])
     programs = re.findall(r"^```go\n(.*?)^```$", page, re.M | re.S)
-    compare("the program and the snippet of docs/go.md", 2, len(programs))
+    compare("the program and the snippets of docs/go.md", SNIPPETS + 1, len(programs))
     hello = top / "hello"
-    (hello / "main.go").write_text(programs[0])
+    [program] = [text for text in programs if "func main()" in text]
+    programs.remove(program)
+    (hello / "main.go").write_text(program)
     environment = {**environment, "PKG_CONFIG_PATH": f"{environment['HOME']}/x/lib/pkgconfig"}
     for block in re.findall(r"^```console\n(.*?)^```$", page, re.M | re.S):
         for command, expected in re.findall(r"^\$ (.*)\n((?:(?!\$ ).*\n)*)", block, re.M):
             compare(f"docs/go.md: {command}", expected, run(["bash", "-c", command], cwd=hello, env=environment)[0])
-    (hello / "main.go").write_text(programs[1] + "\nfunc main() {}\n")
-    go("go vet of the snippet of docs/go.md", ["vet", "."], hello, environment)
+    with_reader(hello, environment)
+    for number, snippet in enumerate(programs):
+        (hello / "main.go").write_text(snippet + "\nfunc main() {}\n")
+        go(f"go vet of snippet {number} of docs/go.md", ["vet", "."], hello, environment)
+    needed = list(NEEDED.finditer(programs[0]))
+    compare("the lines of the service of docs/go.md that are needed", 4, len(needed))
+    for line in needed:
+        (hello / "main.go").write_text(programs[0][:line.start()] + programs[0][line.end():] + "\nfunc main() {}\n")
+        compare(f"go build of the service without `{line[0].strip()}`", True, run(["go", "build", "."], cwd=hello, env=environment)[1] != 0)
+
+
+def with_reader(hello, environment):
+    """A module in the place of the reader that the page names."""
+    path, reader = "capnproto.org/go/capnp/v3", hello.parent / "stand-in"
+    reader.mkdir()
+    (reader / "capnp.go").write_text(STAND_IN)
+    go("go mod init in the place of a reader", ["mod", "init", path], reader, environment)
+    go("go mod edit for a reader", ["mod", "edit", f"-require={path}@v3.0.0", f"-replace={path}={reader}"], hello, environment)
 
 
 def main():
@@ -168,6 +209,7 @@ def main():
             shutil.copytree(TOP / part, top / part)
         shutil.copytree(TOP / "examples", top / "examples", dirs_exist_ok=True)
         tested(top, environment)
+        without_cgo(top, environment)
         imported(top, folder, environment)
         example(top, folder, environment)
         timed(top, folder, environment)

@@ -7,6 +7,7 @@ A case is one call of `compare` or `expect`. Each failure is printed as it comes
 A message is written by its segments: `framed("0000000000000100 | 2a00000000000000")` has the words of two segments, by their
 digits from the first byte on. `framed([1 << 48, 0], [42])` has them as numbers, and `framed(bytes(8))` as bytes.
 """
+import re
 import struct
 import subprocess
 import sys
@@ -89,7 +90,7 @@ def run(command, timeout=3600, **how):
     return ran.stdout, ran.returncode
 
 
-def outputs(command, stdin=b"", timeout=60, **how):
+def outputs(command, stdin=b"", timeout=600, **how):
     """What a command wrote on its standard output and on its standard error, as bytes, and its status. `stdin` is bytes, or a
     file."""
     given = {"stdin" if hasattr(stdin, "fileno") else "input": stdin}
@@ -112,6 +113,14 @@ def under_valgrind(name, watched, built, data, *options):
     """A case: over a file of these bytes a program writes under valgrind what another build of it writes."""
     out, err, status = over_file([*VALGRIND, *options, watched], data)
     expect(name, (out, status) == (over_file([built], data)[0], 0), err[:SHOWN])
+
+
+def instructions(command):
+    """How many instructions a command takes, by valgrind."""
+    text, status = run(["valgrind", "--tool=callgrind", "--callgrind-out-file=/dev/null", *command])
+    compare(f"{' '.join(map(str, command))} under valgrind", 0, status)
+    found = re.search(r"Collected : (\d+)", text)
+    return int(found[1]) if found else 0
 
 
 def with_lengths(texts):

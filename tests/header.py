@@ -1,8 +1,8 @@
 #!/usr/bin/env python3
-"""Compares the answers, the kinds of node and the constants of include/capvet.h, their numbers and the names of answers, with
-those of the code and of the definitions.
+"""Compares the answers, the kinds of node, the reasons of differences and the constants of include/capvet.h, their numbers and the names
+of answers and reasons, with those of the code and of the definitions.
 
-Each answer, kind and constant is a case. The last line is 'N passed, 0 failed', or says which one differs.
+Each answer, kind, reason and constant is a case. The last line is 'N passed, 0 failed', or says which one differs.
 """
 
 import pathlib
@@ -21,11 +21,13 @@ CONSTANTS = (
     ("MAX_SEGMENTS", "crates/cap_spec/specs/Messages.antt", r"length m ≤ (\d+)"),
     ("SLACK", DEMANDS, r"^const SLACK: u64 = (\d+);"),
     ("EXPLANATION_BOUND", "crates/cap_calls/specs/CallBounds.antt", r"^explanation_bound = (\d+)$"),
+    ("OVERLAP_BOUND", "crates/cap_calls/specs/CallBounds.antt", r"^overlap_bound = (\d+)$"),
     # (the lowest bit is divided by nothing)
-    ("ALLOW_TRAILING", FLAGS, r"^allows_trailing l = l\.flags(?: / (\d+))? % 2 == 1$"),
     ("ALLOW_NONSTRICT", FLAGS, r"^allows_nonstrict l = l\.flags(?: / (\d+))? % 2 == 1$"),
     ("ALLOW_AMPLIFIED", FLAGS, r"^allows_amplified l = l\.flags(?: / (\d+))? % 2 == 1$"),
-    ("NO_TABLE", FLAGS, r"^has_no_table l = l\.flags(?: / (\d+))? % 2 == 1$"),
+    ("FORM_WHOLE", FLAGS, r"^      form = (\d+);$"),
+    ("FORM_PREFIX", FLAGS, r"^allows_trailing l = l\.form == (\d+)$"),
+    ("FORM_WORDS", FLAGS, r"^has_no_table l = l\.form == (\d+)$"),
     ("STEP_POINTER", "crates/cap_calls/src/step.rt", r"^        if self\.kind == (\d+) \{$"),
     ("STEP_ELEMENT", "crates/cap_calls/src/calls/get_range.rt", r"^        if steps\[at\]\.kind > (\d+) \{$"),
 )
@@ -66,7 +68,7 @@ def calls():
 
 
 def main():
-    header = answers("include/capvet.h", r"^\s*CAPVET_(?!KIND_)([A-Z_]+) = (\d+)")
+    header = answers("include/capvet.h", r"^\s*CAPVET_(?!KIND_|DIFFERENCE_)([A-Z_]+) = (\d+)")
     code = answers("crates/cap_calls/src/answer.rt", CODE)
     specs = answers("crates/cap_calls/specs/AnswerNumbers.antt", r"^answer_number ([A-Z]\w+) = (\d+)")
     for path, reported in (("answer.rt", code), ("AnswerNumbers.antt", specs)):
@@ -79,7 +81,7 @@ def main():
         there = number(path, pattern)
         if there is None or reported != there:
             sys.exit(f"header: CAPVET_{name} is {reported}, and in {path} {there}")
-    reported = re.findall(r'^    case CAPVET_([A-Z_]+): return "(\w+)";', (ROOT / "include/capvet.h").read_text(), re.MULTILINE)
+    reported = re.findall(r'^    case CAPVET_(?!DIFFERENCE_)([A-Z_]+): return "(\w+)";', (ROOT / "include/capvet.h").read_text(), re.MULTILINE)
     if [name for name, _ in reported] != list(header) or {header[name]: text for name, text in reported} != names():
         sys.exit(f"header: capvet_answer_name has {reported}")
     version = answers("include/capvet.h", r"^#define CAPVET_VERSION_([A-Z]+) (\d+)$")
@@ -94,7 +96,17 @@ def main():
         there = {"NULL": 0} | {KINDS[name]: number for name, number in reported.items()}
         if there != kinds:
             sys.exit(f"header: the kinds of node are {kinds}, and in {path} {there}")
-    print(f"{len(header) + len(CONSTANTS) + len(kinds)} passed, 0 failed")
+    differences = answers("include/capvet.h", r"^\s*CAPVET_DIFFERENCE_([A-Z_]+) = (\d+)")
+    code = answers("crates/cap_calls/src/difference_number.rt", r"^        DifferenceReason::(\w+) => (\d+),")
+    specs = answers("crates/cap_calls/specs/DifferenceNumbers.antt", r"^reason_number ([A-Z]\w+) = (\d+)")
+    for path, reported in (("difference_number.rt", code), ("DifferenceNumbers.antt", specs)):
+        there = {constant(name): number for name, number in reported.items()}
+        if there != differences:
+            sys.exit(f"header: the reasons of differences are {differences}, and in {path} {there}")
+    names_there = re.findall(r'^    case CAPVET_DIFFERENCE_([A-Z_]+): return "(\w+)";', (ROOT / "include/capvet.h").read_text(), re.MULTILINE)
+    if {differences[name]: text for name, text in names_there} != {number: name for name, number in code.items()}:
+        sys.exit(f"header: capvet_difference_name has {names_there}")
+    print(f"{len(header) + len(CONSTANTS) + len(kinds) + len(differences)} passed, 0 failed")
 
 
 if __name__ == "__main__":

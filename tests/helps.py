@@ -16,6 +16,7 @@ Commands:
   get       Prints the node at a path in each accepted message
   check     Checks that each message is canonical
   canon     Writes the canonical copy of each message
+  hash      Prints the SHA-256 of the content of each message
   pack      Packs a stream of words
   unpack    Unpacks a stream of words
   help      Print this message or the help of the given subcommand(s)
@@ -26,12 +27,14 @@ Options:
 
 The input is a stream of framed messages. A framed message is a table with the sizes of its
 segments, followed by the segments in words of 8 bytes. Without FILE a command reads standard input.
+For many files, CSV, JSON, and trees with texts, the package for Python has 'python -m capvet'.
 
 Exit status:
   0  every message was accepted, and is canonical for 'check'; or every word was copied;
      or the input is empty
-  1  a message was refused, is not canonical for 'check' or has a capability for 'canon';
-     or the input is cut short, or is not a stream of messages within the limits
+  1  a message was refused, is not canonical for 'check' or has a capability for 'canon' or 'hash';
+     or the input is cut short, or is not a stream of messages within the limits, or not one
+     message with '--one'
   2  the command line is wrong
   3  a file does not open, reading or writing failed, or memory ran out
 
@@ -39,7 +42,7 @@ Example:
   $ capvet vet examples/contacts.bin
   message 0: accepted charge 391 depth 11 pointers 125 caps 0
 """),
-    (("--version", "-V", "--version vet"), "capvet 1.1.0-dev\n"),
+    (("--version", "-V", "--version vet"), "capvet 2.0.0-dev\n"),
     (("segments --help", "segments -h", "help segments"), """\
 Prints the segments of each message, their sizes in words, and the root pointer
 
@@ -75,6 +78,8 @@ Options:
       --strict       Refuse a message in a form that common readers reject
       --unamplified  Refuse a charge above the words of the message plus 4096
       --exclusive    Refuse a message that uses a word twice
+      --one          Demand that the input is exactly one message
+      --json         Print a JSON object for each message, one a line
   -h, --help         Print help
 
 For an accepted message it prints four numbers. The charge is the number of words that a full
@@ -99,10 +104,10 @@ Example:
     (("explain --help", "explain -h", "help explain"), """\
 Checks as 'vet' does, and explains each refusal
 
-Usage: capvet explain [OPTIONS] [FILE]
+Usage: capvet explain [OPTIONS] [FILE]...
 
 Arguments:
-  [FILE]  File to read instead of standard input
+  [FILE]...  File to read instead of standard input; of several, each line has its name
 
 Options:
       --packed       The input is packed
@@ -112,6 +117,9 @@ Options:
       --strict       Refuse a message in a form that common readers reject
       --unamplified  Refuse a charge above the words of the message plus 4096
       --exclusive    Refuse a message that uses a word twice
+      --canonical    Say whether each accepted message is canonical, and why not
+      --one          Demand that the input is exactly one message
+      --json         Print a JSON object for each message, one a line
   -h, --help         Print help
 
 After the line of 'vet', a refused message has lines that explain the refusal. They begin with the
@@ -122,10 +130,14 @@ that the pointer leads into, with its length. Then come what is exceeded, if som
 reason as a sentence. For Overlap a last line, 'first used by', names the earlier pointer that uses
 the same word, if there is one. If the input breaks off inside a message, or a message is too large,
 standard error has the line of this fault. Lines after it say where the message begins, what its
-table says, and the reason. The options are those of 'vet'.
+table says, and the reason. The options are those of 'vet', and --canonical.
 
 An accepted message that is not strict or is amplified has a line that 'filter', the guard and the
 libraries refuse it, and then the same lines. With --strict and --unamplified, it is refused here.
+
+With --canonical an accepted message has the line of 'check' after all this. If it is not canonical,
+the line has the first reason and the place of the pointer: the first one, in preorder, that is not
+as in the canonical copy. The same lines follow, and the status is that of 'check'.
 
 'pointers N' counts the pointers that were looked at, the named one included. In a path, pN is
 pointer N and iN is element N, both counted from 0. A place is SEGMENT:WORD, both counted from 0,
@@ -162,6 +174,7 @@ Options:
       --allow-amplified  Accept a charge above the words of the message plus 4096
       --pack             Pack the output
       --stop             End the run after the first refused message
+      --one              Demand that the input is exactly one message
   -h, --help             Print help
 
 It writes an accepted message in one plain frame: a table with zero padding, and all its segments as
@@ -193,6 +206,7 @@ Options:
       --depth <N>    Maximum level of an object: 0 to 256; the root object has level 1 [default: 64]
       --strict       Refuse a message in a form that common readers reject
       --unamplified  Refuse a charge above the words of the message plus 4096
+      --one          Demand that the input is exactly one message
   -h, --help         Print help
 
 After the line of 'vet', an accepted message has the lines of its tree. A node has one line, then
@@ -224,6 +238,7 @@ Options:
       --depth <N>    Maximum level of an object: 0 to 256; the root object has level 1 [default: 64]
       --strict       Refuse a message in a form that common readers reject
       --unamplified  Refuse a charge above the words of the message plus 4096
+      --one          Demand that the input is exactly one message
   -h, --help         Print help
 
 PATH is '/' for the root, or a list of steps. The step '/pN' leads to pointer N of a struct, and
@@ -252,6 +267,8 @@ Options:
       --depth <N>    Maximum level of an object: 0 to 256; the root object has level 1 [default: 64]
       --strict       Refuse a message in a form that common readers reject
       --unamplified  Refuse a charge above the words of the message plus 4096
+      --one          Demand that the input is exactly one message
+      --json         Print a JSON object for each message, one a line
   -h, --help         Print help
 
 A message is canonical if it has one segment, with exactly the words that 'canon' writes after the
@@ -276,15 +293,45 @@ Options:
       --depth <N>    Maximum level of an object: 0 to 256; the root object has level 1 [default: 64]
       --strict       Refuse a message in a form that common readers reject
       --unamplified  Refuse a charge above the words of the message plus 4096
+      --one          Demand that the input is exactly one message
   -h, --help         Print help
 
 A copy is a message of one segment; its table is the first 8 bytes. Two messages have equal copies
 exactly if they have the same content, apart from zeros and null pointers at the end of structs. The
-command ends at the first message that is refused or has a capability.
+command ends at the first message that is refused or has a capability. To hash copies, use 'hash'.
 
 Example:
-  $ capvet canon examples/contacts.bin | tail -c +9 | sha256sum
-  da5b2d724a838dca43e56e40db89de68bba3d3772cd838de0fa7e9029481403e  -
+  $ capvet canon examples/contacts-many-segments.bin | capvet segments | head -n 1
+  message 0: segments 1 words 389
+"""),
+    (("hash --help", "hash -h", "help hash"), """\
+Prints the SHA-256 of the content of each message
+
+Usage: capvet hash [OPTIONS] [FILE]...
+
+Arguments:
+  [FILE]...  File to read instead of standard input; of several, each line has its name
+
+Options:
+      --packed       The input is packed
+      --size <N>     Maximum words of a message, without its table: 0 to 268435456 [default: 8388608]
+      --words <N>    Maximum charge of a message in words: 0 to 268435456 [default: 8388608]
+      --depth <N>    Maximum level of an object: 0 to 256; the root object has level 1 [default: 64]
+      --strict       Refuse a message in a form that common readers reject
+      --unamplified  Refuse a charge above the words of the message plus 4096
+      --one          Demand that the input is exactly one message, and print its hash alone
+      --json         Print a JSON object for each message, one a line
+  -h, --help         Print help
+
+The hash is that of the bytes which 'canon' writes after the table of the copy, as 64 digits. So two
+messages with the same content have the same hash, apart from zeros and null pointers at the end of
+structs. A message with a capability has no copy, and the line has the place of its first one. For
+a refused message it prints the line of 'vet'. A program should compare hashes only if the exit
+status is 0. With --one the line of a hash is the 64 digits alone.
+
+Example:
+  $ capvet hash examples/contacts.bin
+  message 0: sha256 da5b2d724a838dca43e56e40db89de68bba3d3772cd838de0fa7e9029481403e
 """),
     (("pack --help", "pack -h", "help pack"), """\
 Packs a stream of words

@@ -1,10 +1,11 @@
 #!/usr/bin/env python3
 """Installs the built program and library into scratch folders as their users do, and compares what is there.
 
-`make install` puts each file where PREFIX and DESTDIR say, with its mode, and `make uninstall` removes just these. If it can't put
-them there, it says so before anything is proved. So does each target that needs `rt` if there is none. `make run` shows what is built.
+`make install` puts each file where PREFIX and DESTDIR say, with its mode. So does `make install-guard` with the guard and its manual
+page, and `make uninstall` removes just these. If they can't put them there, they say so before anything is proved. So does each target
+that needs `rt` or `go` if there is none. `make run` shows what is built.
 The manual pages are read without a warning. The page of the program has the commands and options of help, and shows what the program
-writes. The page of the library has each call of the header. Bash completes each place of a command line.
+writes. The page of the library has each call and each answer of the header. Bash completes each place of a command line.
 
     install.py [PROGRAM [ARCHIVE]]
 
@@ -24,7 +25,7 @@ from needs import has, missing, path_without
 
 COMPLETIONS = {"share/bash-completion/completions/capvet": "capvet.bash", "share/zsh/site-functions/_capvet": "_capvet",
                "share/fish/vendor_completions.d/capvet.fish": "capvet.fish"}
-PAGE, CALLS_PAGE = "share/man/man1/capvet.1", "share/man/man3/capvet.3"
+PAGE, CALLS_PAGE, GUARD_PAGE = "share/man/man1/capvet.1", "share/man/man3/capvet.3", "share/man/man1/capvet-guard.1"
 DESCRIPTION = "lib/pkgconfig/capvet.pc"
 PACKAGE = "lib/cmake/capvet"
 # What is installed, its mode, and the file that it is a copy of, where it is one.
@@ -37,8 +38,12 @@ FILES = {"bin/capvet": (0o755, PROGRAM), PAGE: (0o644, TOP / "docs/capvet.1"),
             for name in ("kj.h", "kj-message.h", "kj-stream.h", "kj-server.h")},
          DESCRIPTION: (0o644, None), "lib/pkgconfig/capvet-kj.pc": (0o644, None),
          f"{PACKAGE}/capvetConfig.cmake": (0o644, None), f"{PACKAGE}/capvetConfigVersion.cmake": (0o644, None)}
-COMMANDS = ("segments", "vet", "explain", "filter", "dump", "get", "check", "canon", "pack", "unpack")
+# The same for the guard. Its program is a text here: tests/guard.py builds, installs and runs it.
+GUARD_FILES = {"bin/capvet-guard": 0o755, GUARD_PAGE: 0o644}
+COMMANDS = ("segments", "vet", "explain", "filter", "dump", "get", "check", "canon", "hash", "pack", "unpack")
 CONTACTS = "message 0: accepted charge 391 depth 11 pointers 125 caps 0\n"
+# The words for `make` that take what `make plain` builds.
+BY_CARGO = "BUILT_PROGRAM=build/cargo/capvet BUILT_ARCHIVE=build/cargo/libcapvet.a"
 # What make prints before a sentence, and after it.
 ENDS = re.compile(r"Makefile:\d+: \*\*\* (.*)\.  Stop\.\n")
 # The superuser without the rights that other users lack.
@@ -56,7 +61,7 @@ def make(target, folder, *variables):
     """`make` of a target with nothing to build by, and its status."""
     refused = Path(folder) / "refused"
     refused.mkdir(exist_ok=True)
-    for tool in ("rt", "cargo", "cc"):
+    for tool in ("rt", "cargo", "cc", "go"):
         (refused / tool).write_text(f"#!/bin/sh\necho {tool} was called\nexit 1\n")
         (refused / tool).chmod(0o755)
     return run(["make", "-s", target, f"BUILT_PROGRAM={PROGRAM}", f"BUILT_ARCHIVE={ARCHIVE}", *variables], cwd=TOP,
@@ -71,16 +76,20 @@ def files_of(folder):
 
 def installed(folder, prefix, *variables):
     """Installs under a prefix, where a file of somebody else's is, compares each file, and takes all away again."""
-    other = Path(prefix) / "bin/other"
+    other, guard = Path(prefix) / "bin/other", Path(folder) / "built-guard"
     other.parent.mkdir(parents=True)
     other.write_text("other\n")
+    guard.write_text("the guard\n")
     modes = {name: mode for name, (mode, _) in FILES.items()}
-    for _ in range(2):
-        compare(f"make install {variables}", ("", 0), make("install", folder, *variables))
-        compare(f"files of {variables}", modes, {n: m for n, m in files_of(prefix).items() if n != "bin/other"})
-    for name, (_, source) in FILES.items():
-        if source:
-            compare(f"{name} of {variables}", source.read_bytes(), (Path(prefix) / name).read_bytes())
+    for target, more in (("install", {}), ("install-guard", GUARD_FILES)):
+        modes |= more
+        for _ in range(2):
+            compare(f"make {target} {variables}", ("", 0), make(target, folder, f"BUILT_GUARD={guard}", *variables))
+            compare(f"files of {target} {variables}", modes, {n: m for n, m in files_of(prefix).items() if n != "bin/other"})
+    sources = {name: source for name, (_, source) in FILES.items() if source}
+    sources |= {"bin/capvet-guard": guard, GUARD_PAGE: TOP / "docs/capvet-guard.1"}
+    for name, source in sources.items():
+        compare(f"{name} of {variables}", source.read_bytes(), (Path(prefix) / name).read_bytes())
     works(Path(prefix))
     for _ in range(2):
         compare(f"make uninstall {variables}", ("", 0), make("uninstall", folder, *variables))
@@ -94,12 +103,14 @@ def works(prefix):
     if not missing("that the manual pages are found and read", "man"):
         environment = {**os.environ, "LC_ALL": "C.UTF-8", "MANPATH": str(prefix / "share/man")}
         environment["PATH"] = f"{program.parent}:{os.environ['PATH']}"
-        for section, name in (("1", PAGE), ("3", CALLS_PAGE)):
-            text, status = run(["man", "--warnings", section, "capvet"], env={**environment, "MANWIDTH": "200"})
-            found = f"CAPVET({section})" in text and "check untrusted Cap'n Proto messages without a schema" in text
-            compare(f"man {section} capvet", (True, 0), (found, status))
+        tagline = "check untrusted Cap'n Proto messages without a schema"
+        for section, title, does, name in (("1", "capvet", tagline, PAGE), ("3", "capvet", tagline, CALLS_PAGE),
+                                           ("1", "capvet-guard", "pass on only the Cap'n Proto messages that are accepted", GUARD_PAGE)):
+            text, status = run(["man", "--warnings", section, title], env={**environment, "MANWIDTH": "200"})
+            found = f"{title.upper()}({section})" in text and does in text
+            compare(f"man {section} {title}", (True, 0), (found, status))
             text = run(["man", "--warnings", "-l", "-Tutf8", "-Z", prefix / name], env={**environment, "MANWIDTH": "80"})
-            compare(f"warnings of {name}", [], [line for line in text[0].splitlines() if "warning" in line])
+            compare(f"warnings of {name}", [], [line for line in text[0].splitlines() if ": warning: " in line])
 
 
 def ends(name, expected, folder, path, *command):
@@ -115,10 +126,12 @@ def can_not_install(folder):
     (folder / "file").touch()
     (folder / "others").mkdir(mode=0o555)
     refused = {"x": "PREFIX has to be a path from /, and is 'x'", "": "PREFIX has to be a path from /, and is ''"}
-    refused |= {f"{folder}/{name}/x": f"make install can write nothing into {folder}/{name}: name a folder of yours, as in "
-                "make install PREFIX=$HOME/x" for name in ("file", "others")}
-    for prefix, expected in refused.items():
-        ends(f"make install PREFIX={prefix}", expected, folder, os.environ["PATH"], *WITHOUT_RIGHTS, "make", "install", f"PREFIX={prefix}")
+    refused |= {f"{folder}/{name}/x": f"make TARGET can write nothing into {folder}/{name}: name a folder of yours, as in "
+                "make TARGET PREFIX=$HOME/x" for name in ("file", "others")}
+    for target in ("install", "install-guard"):
+        for prefix, expected in refused.items():
+            ends(f"make {target} PREFIX={prefix}", expected.replace("TARGET", target), folder, os.environ["PATH"], *WITHOUT_RIGHTS,
+                 "make", target, f"PREFIX={prefix}", f"BUILT_GUARD={folder}/file")
 
 
 def unbuilt(folder):
@@ -133,12 +146,29 @@ def unbuilt(folder):
 
 
 def without_rt(folder):
-    """Without `rt` each target that would prove something ends at once, and those for which nothing has to be proved work."""
+    """Without `rt` each target that would prove something ends at once. Without cargo and apt-get too, so do those that build by cargo.
+    Without Go those of the guard do."""
     (Path(folder) / "path").mkdir()
     path = path_without("rt", Path(folder) / "path")
-    for target in ("run", "test", "build", "install", "check", "gate", "dist", "wheel", "guard"):
+    # (this is no Go, and `make` looks only whether there is one)
+    (Path(folder) / "path/go").unlink(missing_ok=True)
+    (Path(folder) / "path/go").symlink_to("/bin/false")
+    for target in ("prove", "build", "install", "check", "gate", "dist", "wheel", "guard", "install-guard", "inspector"):
+        by_cargo = f". To install what cargo builds, tested and not proved, run `make plain`, and then make {target} {BY_CARGO}"
         ends(f"make {target} without rt", f"make {target} needs `rt` of Rattle's kit, which is not on the path: docs/install.md says "
-             "more, and has packages that need no `rt`", folder, path, "make", target, f"PREFIX={folder}/x")
+             f"more, and has packages that need no `rt`{by_cargo if target in ('install', 'guard', 'install-guard', 'wheel') else ''}", folder, path,
+             "make", target, f"PREFIX={folder}/x")
+    # (the archive is there, and the module for WebAssembly still has to be built)
+    ends("make inspector without rt, with an archive", "make inspector needs `rt` of Rattle's kit, which is not on the path: docs/install.md "
+         "says more, and has packages that need no `rt`", folder, path, "make", "inspector", "BUILT_ARCHIVE=include/capvet.h")
+    for tool in ("cargo", "apt-get", "go"):
+        (Path(folder) / "path" / tool).unlink(missing_ok=True)
+    for target in ("guard", "install-guard"):
+        ends(f"make {target} without go", f"make {target} needs `go`, which is not on the path: docs/install.md names what else it needs",
+             folder, path, "make", target, f"PREFIX={folder}/x")
+    for target in ("run", "test"):
+        ends(f"make {target} without rt and cargo", f"make {target} needs cargo, or `rt` of Rattle's kit, and neither is on the path: "
+             "docs/install.md says more", folder, path, "make", target)
 
 
 def shown(folder):
@@ -167,6 +197,10 @@ def calls():
     for call in declared:
         name = re.search(r"capvet_\w+(?=\()", call)[0]
         compare(f"the page says what {name} does", True, re.search(rf"^\.TP\n\.BR? .*\b{name}\b", page, re.M) is not None)
+    answers = re.search(r"^CAPVET_ANSWERS \{(.*?)^\}", header, re.M | re.S)[1]
+    answers = re.findall(r"(CAPVET_\w+) = (\d+)\b", answers)
+    values = page.partition(".SH RETURN VALUE\n")[2].partition(".SH ")[0]
+    compare("answers of the page", answers, [("CAPVET_OK", "0"), *re.findall(r'^\.BR (CAPVET_\w+) " \((\d+)\)', values, re.M)])
 
 
 def options_of_help(command):
@@ -180,7 +214,8 @@ def options():
     page = (TOP / "docs/capvet.1").read_text().replace("\\-", "-")
     reported = set(re.findall(r"--[a-z-]+", page))
     of_help = {option for command in COMMANDS for option in options_of_help(command)} | {"--version"}
-    compare("options of the manual page", of_help, reported)
+    # (help doesn't list the other names of options)
+    compare("options of the manual page", of_help | {"--message-words", "--charge"}, reported)
     commands, _, _ = page.partition(".SH COMMANDS\n")[2].partition("\n.SH ")
     compare("commands of the manual page", [*COMMANDS, "help"], re.findall(r"^\.TP\n\.B (\w+)$", commands, re.M))
     synopsis = page.partition(".SH SYNOPSIS\n")[2].partition(".SH ")[0]
@@ -196,7 +231,7 @@ def versions():
     newest, release = re.search(r"^## (\S+) \((.*)\)$", changes, re.M).groups()
     text = f"{version}-dev" if release == "not released" else version
     compare("the version of CHANGELOG.md", text, newest)
-    compare("the version of the program", (f"capvet {text}\n", 0), run([PROGRAM, "--version"]))
+    compare("the version of the program", (f"capvet {text}\n", 0), run([PROGRAM, "-V"]))
     for name in ("docs/capvet.1", "docs/capvet.3", "docs/capvet-guard.1"):
         compare(f"the version of {name}", [text], re.findall(r'^\.TH .*"capvet (.*?)"', (TOP / name).read_text(), re.M))
     if (TOP / ".git").exists():
@@ -209,14 +244,14 @@ def versions():
             header, status = run(["git", "show", f"{commit}:include/capvet.h"], cwd=TOP)
             parts = re.findall(r"^#define CAPVET_VERSION_(?:MAJOR|MINOR|PATCH) (\d+)$", header, re.M)
             compare(f"the header at {commit}", (number, 0), (".".join(parts), status))
-    manifests = sorted(file for folder in ("bindings", "examples") for name in ("Cargo.toml", "pyproject.toml", "setup.cfg")
+    manifests = sorted(file for folder in ("rust", "bindings", "examples") for name in ("Cargo.toml", "pyproject.toml", "setup.cfg")
                        for file in (TOP / folder).glob(f"*/{name}"))
-    found = {file: re.findall(r'^version = "?([^"\n]*)"?$', file.read_text(), re.M) for file in manifests}
+    # (a crate also has the versions of the crates of this repository that it is over)
+    version_in = re.compile(r'(?:^|\{ )version = "?([^",\n]*)"?(?:$|, path = )', re.M)
+    found = {file: version_in.findall(file.read_text()) for file in manifests}
     compare("manifests have a version", True, len([file for file in manifests if found[file]]) >= 2)
     for file in manifests:
         compare(f"the version of {file.relative_to(TOP)}", [version] * len(found[file]), found[file])
-    expected = re.findall(r'"capvet ([^"]*)"', re.search(r"VERSIONS: \[&str; 2\] = (.*);", (TOP / "bindings/rust/build.rs").read_text())[1])
-    compare("the versions that the crate takes", [f">= {numbers[0]}.{numbers[1]}", f"< {int(numbers[0]) + 1}"], expected)
 
 
 def examples():
@@ -250,7 +285,8 @@ def completions():
         front = [command, "/p0"] if command == "get" else [command]
         compare(f"options of {command}", options_of_help(command), completed(*front, "-"))
         compare(f"files of {command}", samples, completed(*front, ""))
-        compare(f"one file of {command}", [], completed(*front, "contacts.bin", ""))
+        several = command in ("explain", "hash")
+        compare(f"files of {command} after one", samples if several else [], completed(*front, "contacts.bin", ""))
         compare(f"files of {command} after --", samples, completed(*front, "--", ""))
         compare(f"no option of {command} after --", [], completed(*front, "--", "-"))
     compare("files by their beginning", ["contacts.bin"], completed("vet", "--packed", "contacts.b"))

@@ -30,11 +30,11 @@ from amount import IS_FULL, IS_IDLE
 from harness import ARCHIVE, TOP, compare, count, ended, run
 from js_browser import in_chromium
 from js_requests import HERE, SEED, in_node, unpacker
-from needs import missing
+from needs import is_kept, missing
 
 BINDING, MODULE = TOP / "bindings/js", TOP / "build/capvet.wasm"
 # The most that a call may take, as a multiple of the time from C. (to copy a flat list into the module takes longer than to vet it)
-MOST, MOST_FLAT = 3, 7
+MOST, MOST_FLAT = 3, 9
 # The bytes of a flat list.
 LENGTH = 4072
 # The most bytes of the process that reads a gigabyte, and the bytes of a large message.
@@ -57,13 +57,17 @@ def package(folder):
     return where
 
 
-def answers_of_header():
-    """The names of answers in the package are those of the header."""
-    names = dict(re.findall(r'\[(\d+), "(\w+)"\]', (BINDING / "src/answers.js").read_text()))
+def names_of_header():
+    """The names of answers in the package are those of the header, and so are the names of first differences."""
     header = (TOP / "include/capvet.h").read_text()
-    numbers = dict(re.findall(r"^  CAPVET_(\w+) = (\d+),", header, re.M))
-    expected = {numbers[name]: text for name, text in re.findall(r'case CAPVET_(\w+): return "(\w+)"', header) if name != "OK"}
-    compare("the names of the answers", expected, names)
+    numbers = dict(re.findall(r"^  CAPVET_(\w+) = (\d+)", header, re.M))
+    named = {name: text for name, text in re.findall(r'case CAPVET_(\w+): return "(\w+)"', header) if name != "OK"}
+    differences = {numbers[name]: named.pop(name) for name in [*named] if name.startswith("DIFFERENCE_")}
+    names = dict(re.findall(r'\[(\d+), "(\w+)"\]', (BINDING / "src/answers.js").read_text()))
+    compare("the names of the answers", {numbers[name]: text for name, text in named.items()}, names)
+    listed = re.search(r"^const DIFFERENCES = \[(.*?)\]", (BINDING / "src/difference.js").read_text(), re.M | re.S)[1]
+    compare("the names of first differences", differences,
+            {str(number): text for number, text in enumerate(re.findall(r'"(\w+)"', listed), 1)})
 
 
 def tested(folder):
@@ -98,38 +102,46 @@ declare const message: Uint8Array;
 RIGHT = """import * as capvet from "capvet";
 import { vet as inlined } from "capvet/inlined";
 const bytes = new Uint8Array(8);
-const report: capvet.Report = inlined(bytes.buffer, { depth: 3 });
+const report: capvet.Report = inlined(bytes.buffer, { depth: 3 }).report;
 const first: capvet.Position | null = report.firstCapability;
 for (const it of capvet.messages(bytes, { exclusive: true })) {
-  if (it.refusal) console.log(it.refusal.pointers, it.raw.length);
+  if (it instanceof capvet.Refusal) console.log(it.pointer, it.unvetted.length, it.reason === "DepthLimit");
   else console.log(it.data.length, it.report.charge);
 }
+const { message, rest } = capvet.vetPrefix(bytes);
 export async function all(body: ReadableStream<Uint8Array>, file: AsyncIterable<Uint8Array>) {
   for await (const it of capvet.readMessages(body, { packed: true })) console.log(it.number);
   for await (const it of capvet.readMessages(file)) console.log(it.offset);
   const reader = body.pipeThrough(new capvet.MessageStream()).getReader();
   const { value } = await reader.read();
-  console.log(value?.report?.depth);
+  if (value instanceof capvet.Message) console.log(value.report.depth);
 }
-const count: number = capvet.canonicalInto(bytes, new Uint8Array(9), { depth: 3 });
-const lines: string | null = capvet.explain(bytes.buffer);
-console.log(count, lines);
-for (const it of capvet.nodes(bytes, "/p*", { first: 1, count: 2 })) console.log(it?.kind, it?.data.length, first);
+const count: number = message.canonicalInto(new Uint8Array(9));
+console.log(count, rest, report.readerWords(2));
+const difference: capvet.Difference | null = message.firstDifference();
+if (difference?.reason === "Place") console.log(difference.position.word, difference.pointers, difference.path?.length);
+for (const it of message.getRange("/p*", { first: 1, count: 2 })) console.log(it?.kind, it?.data.length, first);
+for (const it of capvet.peekRange(bytes, "/p*", { first: 1, depth: 2 })) console.log(it?.kind);
 """
 # Each of these lines has a fault.
 WRONG = """import * as capvet from "capvet";
 capvet.vet("text");
 capvet.vet(new Uint8Array(8), { dept: 3 });
 capvet.vet(new Uint8Array(8), { depth: 3n });
-capvet.vet(new Uint8Array(8)).charge.length;
-capvet.node(new Uint8Array(8), "/").kind;
-capvet.explain(new Uint8Array(8)).length;
-capvet.canonicalInto(new Uint8Array(8), new ArrayBuffer(8));
+capvet.vet(new Uint8Array(8)).report.charge.length;
+capvet.vet(new Uint8Array(8)).get("/").kind;
+new capvet.Message();
+capvet.vet(new Uint8Array(8)).canonicalInto(new ArrayBuffer(8));
 capvet.readMessages(new Uint8Array(8));
 capvet.messages(new Uint8Array(8), { packed: true });
 for (const it of capvet.messages(new Uint8Array(8))) console.log(it.report.charge);
-for (const it of capvet.messages(new Uint8Array(8))) console.log(it.refusal ? it.data.length : 0);
+for (const it of capvet.messages(new Uint8Array(8))) console.log(it instanceof capvet.Refusal ? it.data.length : 0);
 new capvet.Refusal();
+for (const it of capvet.messages(new Uint8Array(8))) console.log(it instanceof capvet.Refusal && it.reason === "DepthLimits");
+capvet.vet(new Uint8Array(8)).data = new Uint8Array(8);
+capvet.vet(new Uint8Array(8), { noTable: true });
+capvet.vet(new Uint8Array(8)).firstDifference().reason;
+capvet.vet(new Uint8Array(8)).firstDifference()?.reason === "NoRoot";
 """
 TSC = ("tsc", "--noEmit", "--strict", "--target", "es2022", "--lib", "es2022,dom,dom.iterable", "--module", "nodenext",
        "--moduleResolution", "nodenext", "--allowJs", "--checkJs", "--maxNodeModuleJsDepth", "0")
@@ -158,12 +170,16 @@ def typed(folder):
     compare("tsc of the programs", ("", 0), run([*TSC, "--noImplicitAny", "false", *right], cwd=here))
     text, status = run([*TSC, "wrong.mts"], cwd=here)
     lines = sorted({int(line) for line in re.findall(r"^wrong.mts\((\d+),", text, re.M)})
-    compare("tsc of what is wrong", (True, list(range(2, 14))), (status != 0, lines))
+    compare("tsc of what is wrong", (True, list(range(2, 19))), (status != 0, lines))
+    for name, how in (("init.mts", "import { init, initSync, vet } from"), ("init.cts", "import { init, initSync, vet } from")):
+        (here / name).write_text(f'{how} "capvet/init";\ninit(new URL("x:")).then(() => vet(new Uint8Array(8)));\n'
+                                 'initSync(new Uint8Array(8));\n')
+    compare("tsc of capvet/init, as a module of both kinds", ("", 0), run([*TSC, "init.mts", "init.cts"], cwd=here))
     for name, path in (("vet.mts", "capvet"), ("inlined.mts", "capvet/inlined")):
         (here / name).write_text(f'import {{ vet }} from "{path}";\nvet(new Uint8Array(8));\n')
     without = ["es2022" if word.startswith("es2022,") else word for word in TSC]
     text, status = run([*without, "vet.mts"], cwd=here)
-    compare("tsc without the library dom", (True, 3), (status != 0, text.count("error TS2304")))
+    compare("tsc without the library dom", (True, 5), (status != 0, text.count("error TS2304")))
     compare("tsc without the library dom, by skipLibCheck", ("", 0), run([*without, "--skipLibCheck", "vet.mts", "inlined.mts"], cwd=here))
     older = ["node" if word == "nodenext" and TSC[at - 1] == "--moduleResolution" else "es2022" if word == "nodenext" else word
              for at, word in enumerate(TSC)]
@@ -233,6 +249,31 @@ def sized():
     compare("the size of the module on docs/wasm.md", round(MODULE.stat().st_size / 10_000) * 10, int(size[1]) if size else 0)
 
 
+# Calls the service at the begin of the page, with a reader that prints what it gets.
+SERVED = """import { readFileSync } from "node:fs";
+import { receive } from "./service.mjs";
+
+for (const file of process.argv.slice(2)) {
+  try {
+    receive(readFileSync(file), (data, limits) => console.log(data.length, limits));
+  } catch (error) {
+    console.log(error.reason);
+  }
+}
+"""
+
+
+def served(folder):
+    """The service at the begin of docs/js.md passes a message to its reader, and nothing else."""
+    first = re.search(r"^```(\w*)\n(.*?)^```$", (TOP / "docs/js.md").read_text(), re.M | re.S)
+    compare("docs/js.md begins with a service", ("javascript", True), (first[1], "export function receive" in first[2]))
+    (folder / "service.mjs").write_text(first[2])
+    (folder / "served.mjs").write_text(SERVED)
+    files = [TOP / f"examples/{name}.bin" for name in ("contacts", "cycle", "stream-of-four")]
+    expected = "3144 { words: 8388608, nesting: 64 }\nDepthLimit\nTrailing\n"
+    compare("the service of docs/js.md", (expected, 0), run(["node", "served.mjs", *files], cwd=folder))
+
+
 def as_shown(folder):
     """The commands and programs of docs/js.md write what the page shows."""
     # (the module is built already)
@@ -248,13 +289,14 @@ def as_shown(folder):
 
 
 def main():
-    if missing("the package for JavaScript", "node", "wasm-opt"):
+    # (a root of another release has no `rt`, and the module that was built outside of it)
+    if missing("the package for JavaScript", "node", *["wasm-opt"] * (not is_kept("wasm"))):
         return ended()
     compare("the module is built", 0, subprocess.run([sys.executable, TOP / "packaging/targets.py", "wasm"]).returncode)
     with tempfile.TemporaryDirectory() as scratch:
         folder = Path(scratch)
         where = package(folder)
-        answers_of_header()
+        names_of_header()
         tested(folder)
         typed(folder)
         texts = unpacker(folder)
@@ -266,6 +308,7 @@ def main():
         if IS_FULL:
             bounded(where)
         sized()
+        served(folder)
         as_shown(folder)
     return ended()
 

@@ -10,7 +10,7 @@ from pathlib import Path
 from threading import Event, Lock, Thread
 
 from harness import TOP, compare
-from js_requests import HERE, MANY, requests, same
+from js_requests import HERE, requests, same
 
 PAGES = {
     "/": """<!doctype html><link rel="icon" href="data:,"><script type="module" src="/main.mjs"></script>""",
@@ -27,7 +27,7 @@ answerServer("worker", capvet).catch((error) => postMessage(String(error.stack))
 """,
     "/strict": """<!doctype html><link rel="icon" href="data:,"><script type="module" src="/strict.mjs"></script>""",
     "/strict.mjs": """import { vet } from "/capvet/capvet-inlined.js";
-new Image().src = `/charge/${vet(Uint8Array.from(atob("%s"), (letter) => letter.charCodeAt(0))).charge}`;
+new Image().src = `/charge/${vet(Uint8Array.from(atob("%s"), (letter) => letter.charCodeAt(0))).report.charge}`;
 """ % base64.b64encode((TOP / "examples/contacts.bin").read_bytes()).decode(),
 }
 POLICIES = {"/": "default-src 'none'; script-src 'self' 'wasm-unsafe-eval'; connect-src 'self'; img-src data:",
@@ -40,7 +40,7 @@ class Asked:
     """The requests that the page and its worker ask for, each until both have answered."""
 
     def __init__(self, made):
-        self.made, self.kept, self.count, self.lock = made, {}, 0, Lock()
+        self.made, self.kept, self.count, self.answers, self.lock = made, {}, 0, 0, Lock()
         self.ended = {name: Event() for name in (*CLIENTS, "strict")}
 
     def get(self, number):
@@ -51,11 +51,19 @@ class Asked:
                 self.count += 1
             return self.kept[number][0] if number in self.kept else None
 
+    def comes_to_the_end(self, client):
+        """Whether a client has answered all. Without any answer it ends after ten minutes at most, since a browser may be stuck."""
+        before = None
+        while not (ended := self.ended[client].wait(300)) and self.answers != before:
+            before = self.answers
+        return ended
+
     def answered(self, client, number, got):
         with self.lock:
             it, answered = self.kept[number]
             same(f"in Chromium, by the {client}", it, got)
             answered.add(client)
+            self.answers += 1
             if len(answered) == len(CLIENTS):
                 del self.kept[number]
 
@@ -120,6 +128,6 @@ def in_chromium(folder, where, texts):
             command = [*words, f"--user-data-dir={folder}/profile{number}", f"http://127.0.0.1:{server.server_port}{page}"]
             with subprocess.Popen(command, stdout=subprocess.DEVNULL, stderr=subprocess.DEVNULL) as browser:
                 for name in names:
-                    compare(f"Chromium came to the end of {name}", True, asked.ended[name].wait(300 + MANY // 10))
+                    compare(f"Chromium came to the end of {name}", True, asked.comes_to_the_end(name))
                 browser.terminate()
         server.shutdown()

@@ -4,6 +4,8 @@
 The tree has three small crates, one above the other. Nothing is proved: a function answers in place of the prover, and counts how
 often it is asked. The last line is 'N passed, M failed', and the status is 1 if a case failed.
 """
+import contextlib
+import io
 import json
 import sys
 import tempfile
@@ -139,6 +141,7 @@ def of_runs(crate, folder):
     tried("a first run", crate, again)
     tried("a second run", crate, taken)
     tried("a run that takes nothing", crate, again, is_anew=True)
+    tried("a run of a proved crate", crate, ((1, 0), 1), is_anew=True, is_proved=True)
     before = source.read_text()
     source.write_text(before + "\n")
     tried("a run with one byte more", crate, again)
@@ -162,6 +165,73 @@ def of_runs(crate, folder):
     tried("a run after those", crate, again)
 
 
+# Three functions in two files, of which one calls another, and a constant. What the prover says of each that is changed.
+FUNCTIONS = {
+    "src/lib.rt": "const SIZE: u32 = 1;\n\npub fn called() -> u32\n    ensures is { result \u2261 1 }\n{\n    called_1\n}\n\n"
+                  "fn calling() -> u32 {\n    calling_1\n}\n",
+    "src/deeper/more.rt": "impl Some {\n    fn method(\n        &self,\n    ) -> u32 {\n        method_1\n    }\n}\n"}
+SAID = {
+    "called_": ("./proofs/called/Answers.antt:1:1: error: `returns-is`: no\n", "fn middle::called: not proved"),
+    "calling_": ("note: src/lib.rt:9:1: it is not proved (`returns`)\n", "fn middle::calling: no proof: expected answers"),
+    "method_": ("proofs/deeper/more/Some/method/Answers.antt:1:1: error: `returns`: no\n", "fn middle::deeper::more::Some::method: not proved"),
+    "SIZE: u32 = ": ("./proofs/called/Answers.antt:1:1: error: `returns-is`: no\n", "fn middle::called: not proved")}
+WAITING = "fn middle::calling: no proof: it calls `middle::called`, which is not proved"
+
+
+def of_functions(said):
+    """A prover that says this of each changed function. Of one that calls a changed one it says that it didn't look."""
+    def answer(_, texts, *__):
+        asked.append(changed := [word for word in said if f"{word}2" in "".join(texts.values())])
+        waits = "called_" in changed and said["called_"][0]
+        errors = "".join(said[word][0] for word in changed if word != "calling_" or not waits)
+        ends = [WAITING if word == "calling_" and waits else said[word][1] for word in changed]
+        return "\n".join([errors, *ends, "logic=not-proved" if errors else "logic=proved"]), 1 if errors else 0
+    asked = []
+    return answer, asked
+
+
+def of_edits_together(crate):
+    """Edits of different functions are tried together, and each is refused by errors of its own function alone."""
+    for name, text in FUNCTIONS.items():
+        (crate / name).write_text(text)
+    texts = {word: f"file: {'src/deeper/more.rt' if word == 'method_' else 'src/lib.rt'}\nold: {word}1\nnew: {word}2\n" for word in SAID}
+    nothing = ("", "fn middle::called: proved")
+    overflow = ("./proofs/called/Answers.antt:1:1: error: `overflow-add`: no\n", "fn middle::called: not proved")
+    lost = ("./proofs/called/Answers.antt:1:1: error: `returns-is`: `c` has no field `x`\n", "fn middle::called: not proved")
+    # (the constant is of no function, and the function that calls a changed one waits for the next try)
+    all_of_them, alone = ["called_", "calling_", "method_"], [["called_"], ["calling_"], ["SIZE: u32 = "]]
+    none_more = [all_of_them, ["called_", "calling_"], *alone]
+    for what, said, bad, tries in (("all refused", SAID["called_"], set(), [all_of_them, *alone[1:]]),
+                                   ("one proved", nothing, {"called_"}, [all_of_them, *alone[::2]]),
+                                   ("one overflows", overflow, {"called_"}, none_more), ("one loses a name", lost, {"called_"}, none_more)):
+        edits.checked, asked = of_functions({**SAID, "called_": said})
+        got = {name: holds for name, holds, _ in edits.results(crate, texts, None, False)}
+        compare(f"edits together, {what}", {word: word not in bad for word in texts}, got)
+        compare(f"what is tried together, {what}", sorted(tries), sorted(asked))
+    # (what one edit writes is what another one looks for, so that it would be there twice)
+    texts = {"called_": texts["called_"].replace("called_2", "called_2 + calling_1"), "calling_": texts["calling_"]}
+    edits.checked, asked = of_functions(SAID)
+    compare("edits that meet", [("called_", True), ("calling_", True)], [it[:2] for it in edits.results(crate, texts, None, False)])
+    compare("what is tried together, where edits meet", [["called_"], ["calling_"]], asked)
+
+
+def of_the_end():
+    """The last lines of prove.py name each bad edit, and a crate that isn't proved without one."""
+    lines = ("low/right.edit: refused at one: returns", "low/wrong.edit: BAD EDIT: the crate is still proved",
+             "middle: not proved without an edit: logic=not-proved")
+    bad = [f"FAILED: {line}\n" for line in lines[1:]]
+    for shown, status, passed, expected in ((lines, 1, None, [*bad, "0 passed, 1 failed\n"]), (lines[:1], 0, 3, ["3 passed, 0 failed\n"])):
+        program = "".join(f"print({line!r})\n" for line in (*shown, f"{'2' if status else '3'} passed, {status} failed"))
+        prove.FAILURES.clear()
+        with contextlib.redirect_stdout(io.StringIO()) as out:
+            got = prove.counted([sys.executable, "-c", f"{program}raise SystemExit({status})"], ".")
+        with contextlib.redirect_stdout(io.StringIO()) as end:
+            ended_with = prove.ended(got)
+        compare(f"what passed of {len(shown)} edits", (passed, status), (got, ended_with))
+        compare(f"the lines of {len(shown)} edits", (True, "".join(expected)), (all(line in out.getvalue() for line in shown), end.getvalue()))
+    prove.FAILURES.clear()
+
+
 def main():
     if missing("what tests/edits.py keeps", "rt"):
         return ended()
@@ -173,6 +243,8 @@ def main():
         of_parts(crate)
         of_the_kit(root / "kit")
         of_runs(crate, root / "cache")
+        of_edits_together(crate)
+        of_the_end()
     return ended()
 
 

@@ -1,23 +1,21 @@
 #!/usr/bin/env python3
-"""Takes the installed library as its users do: through pkg-config, from C, from C++ and from Rust, where they are there.
+"""Takes the installed library as its users do, through pkg-config, from C and C++, and the crate for Rust by its path.
 
     library.py [PROGRAM [ARCHIVE]]
 
-Each example is built against an installed tree and a staged one, without a warning. It has to write what PROGRAM writes of the
-same bytes: of samples, of cut streams and of messages with a bit turned.
+Each example in C is built against an installed tree, without a warning, and each one in Rust over rust/capvet. It has to write
+what PROGRAM writes of the same bytes: of samples, of cut streams and of messages with a bit turned.
 
-- Each program of docs/c.md is built by gcc and clang, and prints what the page shows. The page has each call.
+- Each program of docs/c.md is built by gcc and clang, and prints what the page shows. The page has each call. The service that it
+  begins with doesn't compile, or gives a warning, without any of its lines.
 - `sign.c` verifies what it signs, and refuses other words. `route.c` sorts made messages.
 - `packed_server.c` answers peers on a socket (connections.py): cut streams, messages at its limit and
   above, slow peers, a signal within a message. Every second call to the system is interrupted. Its memory
   is bounded while a gigabyte comes in a packed megabyte.
-- The tests of the crate and of its pages pass. It is formatted, clippy finds nothing, and Rust 1.63
-  compiles it. Each of its declarations is that of the header.
-- The crate returns what PROGRAM prints, for the samples and for 500 changed messages under five sets of
-  limits. It explains 2,000 as PROGRAM does. Without the library its build says so in one line.
+- The examples in Rust are formatted, clippy finds nothing, and Rust 1.63 compiles them. The programs of the pages are built.
 
- What a machine has
-no compiler for is said in a line of its own. The last line is 'N passed, M failed', and the status is 1 where a case failed.
+What a machine has no compiler for is said in a line of its own. The last line is 'N passed, M failed', and the status is 1 where a
+case failed.
 """
 import hashlib
 import os
@@ -30,6 +28,7 @@ import sys
 import tempfile
 from pathlib import Path
 
+import cargo
 import connections
 import install
 import needs
@@ -52,11 +51,14 @@ NAMES = {
     "readers/people-as-texts.bin": None,
     "readers/people-as-numbers.bin": None,
 }
-# What comes after the blocks of Rust of docs/in-process.md: a program over the third of them.
+# The lines of the service of docs/c.md that can't be left out.
+NEEDED = re.compile(r"^  .*;\n", re.M)
+# What comes after the blocks of docs/rust.md: a program over the one that reads a list.
 NAMED = """\
 fn main() {{
     let file = std::env::args().nth(1).unwrap();
-    match block2::names(&std::fs::read(file).unwrap()) {{
+    let bytes = std::fs::read(file).unwrap();
+    match block1::names(capvet::vet(&bytes, capvet::Limits::DEFAULT).unwrap()) {{
         Ok(names) => names.iter().for_each(|name| println!("{{name}}")),
         Err(_) => println!("refused"),
     }}
@@ -121,29 +123,14 @@ def described(prefix, environment):
 
 def of_pages(language, folder, whole="{}", block="{}"):
     """What the pages show in a language, the blocks of each page as one file, by the forms of a file and of a block."""
-    for page in ["docs/in-process.md"] + ["README.md"] * (language == "c"):
+    for page in {"c": ["docs/in-process.md"], "rust": ["docs/rust.md"]}[language]:
         blocks = re.findall(rf"^```{language}\n(.*?)^```$", (TOP / page).read_text(), re.M | re.S)
-        # (tests/before_readers.py builds those that need the crate capnp)
-        blocks = [block for block in blocks if "capvet_capnp" not in block]
+        # (tests/before_readers.py and tests/rust_rpc.py build those that need other crates)
+        blocks = [block for block in blocks if "capvet_capnp" not in block and "tokio" not in block]
         compare(f"{page} has blocks of {language}", True, len(blocks) > 0)
         file = folder / f"{Path(page).stem.lower()}.{language}"
         file.write_text(whole.format("".join(block.format(text, number=number) for number, text in enumerate(blocks))))
         yield file
-
-
-def as_shown(folder):
-    """The commands of the README, which install under the home folder and build the example there."""
-    if missing("the README's commands for C", "cc"):
-        return
-    blocks = re.findall(r"^```sh\n(.*?)^```$", (TOP / "README.md").read_text(), re.M | re.S)
-    first, *others = "".join(blocks).splitlines()
-    # (it is installed already, by `make` without a toolchain)
-    compare("the README's first command", "make install PREFIX=$HOME/x", first)
-    shutil.copytree(TOP / "examples", folder / "shown/examples")
-    environment = {**os.environ, "HOME": str(folder)}
-    shown = run(["sh", "-ec", "\n".join(others)], cwd=folder / "shown", env=environment)
-    expected = [run([PROGRAM, *words]) for words in (["--version"], ["vet", TOP / "examples/stream-of-four.bin"])]
-    compare("the README's commands for C", ("".join(text for text, _ in expected), 0), shown)
 
 
 def from_c(folder, environment, files):
@@ -163,6 +150,7 @@ def from_c(folder, environment, files):
         for file in of_pages("c", folder):
             compare(f"{compiler} {file.name}", ("", 0), run([*build, *include, "-c", file, "-o", folder / "block.o"]))
         page_from_c(compiler, build, link, folder)
+        service_from_c(compiler, [*build, *include], folder)
         manual_from_c(compiler, build, link, folder)
 
 
@@ -191,18 +179,31 @@ def page_from_c(compiler, build, link, folder):
     text, place = (TOP / "docs/c.md").read_text(), folder / f"page-{compiler}"
     shutil.copytree(TOP / "examples", place / "examples")
     programs = dict(re.findall(r"^```c\n/\* (\w+)\.c: .*?\*/\n(.*?)^```$", text, re.M | re.S))
-    compare("each program of docs/c.md has a name", text.count("```c\n"), len(programs))
+    # (the first block is the service)
+    compare("each program of docs/c.md has a name", text.count("```c\n") - 1, len(programs))
     for name, program in programs.items():
         (place / f"{name}.c").write_text(program)
         compare(f"{compiler} {name}.c of docs/c.md", ("", 0), run([*build, place / f"{name}.c", *link, "-o", place / name]))
     declared = set(re.findall(r"\b(capvet_\w+)\([^()]*\) CAPVET_NOEXCEPT", (TOP / "include/capvet.h").read_text()))
     called = set(re.findall(r"\b(capvet_\w+)\(", "".join(programs.values())))
-    compare("the calls that docs/c.md lacks", {"capvet_abi_1"}, declared - called)
+    compare("the calls that docs/c.md lacks", {"capvet_abi_2"}, declared - called)
     environment = {**os.environ, "PATH": f"{PROGRAM.parent}:{os.environ['PATH']}", "LC_ALL": "C.UTF-8", "HOME": str(folder)}
     for language, block in re.findall(r"^```(sh|console)\n(.*?)^```$", text, re.M | re.S):
         shown = re.findall(r"^\$ (.*)\n((?:(?!\$ ).*\n)*)", block, re.M) if language == "console" else [(block, "")]
         for command, expected in shown:
             compare(f"docs/c.md by {compiler}: {command}", expected, run(["bash", "-c", command], cwd=place, env=environment)[0])
+
+
+def service_from_c(compiler, build, folder):
+    """The service that docs/c.md begins with compiles without a warning, and so not without any of its lines."""
+    text = re.search(r"^```c\n(.*?)^```$", (TOP / "docs/c.md").read_text(), re.M | re.S)[1]
+    needed = list(NEEDED.finditer(text))
+    compare("the lines of the service of docs/c.md", 5, len(needed))
+    for line in (None, *needed):
+        (folder / "service.c").write_text(text[:line.start()] + text[line.end():] if line else text)
+        said, status = run([*build, "-c", folder / "service.c", "-o", folder / "service.o"])
+        left_out = line[0].strip() if line else "nothing"
+        compare(f"{compiler}, the service of docs/c.md without {left_out}", bool(line), bool(status or said))
 
 
 def book(job, tags, owner=1 << 2 | 1 << 32):
@@ -329,82 +330,46 @@ def names_from_cplusplus(folder, environment):
 
 
 def names_from_rust(program):
-    """The program of docs/in-process.md that reads a list refuses lists of another kind."""
+    """The program of docs/rust.md that reads a list refuses lists of another kind."""
     for file, names in NAMES.items():
         lines = "refused\n" if names is None else "".join(f"{name}\n" for name in names)
         compare(f"names in Rust, of {file}", (lines, 0), run([program, TOP / "examples" / file]))
 
 
-def without_a_library(folder, environment):
-    """The build of the crate names the library that it doesn't find, in one line."""
-    nothing = folder / "nothing"
-    nothing.mkdir()
-    for name, variables, line in (
-        ("CAPVET_LIB_DIR without the library", {"CAPVET_LIB_DIR": str(nothing)}, f"capvet: there is no file {nothing}/libcapvet.a"),
-        ("no capvet.pc", {"PKG_CONFIG_PATH": str(nothing), "PKG_CONFIG_LIBDIR": str(nothing)}, "capvet: libcapvet.a was not found "),
-    ):
-        text, status = run(["cargo", "check", *CARGO], cwd=folder / "copy/bindings/rust", env={**environment, **variables})
-        lines = [it.strip() for it in text.splitlines() if it.strip().startswith("capvet: ")]
-        compare(f"cargo check, {name}", (True, True, 1), (status != 0, lines[0].startswith(line) if lines else text, len(lines)))
-    found = {**environment, "CAPVET_LIB_DIR": str(folder / "x/lib"), "PKG_CONFIG_LIBDIR": str(nothing), "PKG_CONFIG_PATH": ""}
-    compare("cargo check, CAPVET_LIB_DIR", ("", 0), run(["cargo", "check", *CARGO], cwd=folder / "copy/bindings/rust", env=found))
-
-
-def in_other_folders(folder, environment):
-    """The crate finds the library in a folder whose name has a blank, and in one that pkg-config takes for the system's."""
-    for name in ("some where", "system"):
-        place = folder / name
-        shutil.copytree(folder / "x/lib", place)
-        description = place / "pkgconfig/capvet.pc"
-        description.write_text(re.sub("(?m)^libdir=.*", f"libdir={place}", description.read_text()))
-        variables = {"PKG_CONFIG_PATH": str(description.parent), "PKG_CONFIG_SYSTEM_LIBRARY_PATH": str(folder / "system")}
-        words = ["cargo", "test", "--lib", "--no-run", *CARGO]
-        ran = run(words, cwd=folder / "copy/bindings/rust", env={**environment, **variables})
-        compare(f"cargo test over the folder '{name}'", ("", 0), ran)
-
-
 def tidy(crate, environment):
     """A crate is formatted, clippy finds nothing in it, and the oldest Rust that it is for compiles it."""
-    if not missing(f"the layout of {crate.name}", "rustfmt"):
-        compare(f"rustfmt --check of {crate.name}", ("", 0), run(["rustfmt", "--check", "--edition", "2021", *crate.glob("src/*.rs")]))
-    if not missing(f"clippy of {crate.name}", "cargo-clippy"):
+    name = f"{crate.parent.name}/{crate.name}"
+    if not missing(f"the layout of {name}", "rustfmt"):
+        # (the sources of an adapter are beside the folder of its manifest)
+        sources = list(crate.glob("src/*.rs")) or list(crate.parent.glob("src/*.rs"))
+        compare(f"rustfmt --check of {name}", ("", 0), run(["rustfmt", "--check", "--edition", "2021", *sources]))
+    if not missing(f"clippy of {name}", "cargo-clippy"):
         # (in Rust 1.63 this lint is of the group that is on by default)
         words = ["cargo", "clippy", *CARGO, "--all-targets", "--", "-D", "warnings", "-A", "clippy::format_push_string"]
-        compare(f"clippy of {crate.name}", ("", 0), run(words, cwd=crate, env=environment))
-    if not missing(f"{crate.name} by Rust 1.63", "oldest-rust"):
+        compare(f"clippy of {name}", ("", 0), run(words, cwd=crate, env=environment))
+    if not missing(f"{name} by Rust 1.63", "oldest-rust"):
         environment = {**environment, "PATH": f"{needs.OLDEST_RUST}:{environment['PATH']}",
                        "CARGO_TARGET_DIR": f"{environment['CARGO_TARGET_DIR']}-oldest"}
         (crate / "Cargo.lock").unlink(missing_ok=True)
-        compare(f"{crate.name} by Rust 1.63", ("", 0), run(["cargo", "check", *CARGO, "--all-targets"], cwd=crate, env=environment))
+        compare(f"{name} by Rust 1.63", ("", 0), run(["cargo", "check", *CARGO, "--all-targets"], cwd=crate, env=environment))
 
 
-def from_rust(folder, environment, files):
-    """The tests of the crate, those of its pages too, and the example over it."""
-    if missing("the crate and the example in Rust", "cargo", "rustc"):
+def from_rust(folder, files):
+    """The examples over the crate, and what the pages show. (tests/crates.py runs the tests of the crate)"""
+    if missing("the examples in Rust", "cargo", "rustc", "crates"):
         return
-    environment = {**environment, "CARGO_TARGET_DIR": str(folder / "target"), "CAPVET_PROGRAM": str(PROGRAM),
-                   "RUSTDOCFLAGS": "-D warnings"}
-    environment.pop("CAPVET_LIB_DIR", None)
+    environment = cargo.environment(folder)
     # (cargo writes a lock file beside a crate, so each is taken from a copy of the repository's files)
-    for part in ("bindings", "examples", "include"):
+    for part in ("rust", "examples"):
         shutil.copytree(TOP / part, folder / "copy" / part, ignore=shutil.ignore_patterns("target", "Cargo.lock"))
-    for words in (["test", *CARGO, "--", "--include-ignored"], ["build", *CARGO, "--no-default-features"],
-                  ["build", *CARGO, "--no-default-features", "--features", "alloc"], ["doc", *CARGO, "--no-deps"]):
-        text, status = run(["cargo", *words], cwd=folder / "copy/bindings/rust", env=environment)
-        compare(f"cargo {words}", 0, status)
-        if status:
-            print(text)
-    tidy(folder / "copy/bindings/rust", environment)
     tidy(folder / "copy/examples/rust", environment)
-    without_a_library(folder, environment)
-    in_other_folders(folder, environment)
     for file in of_pages("rust", folder, "#![allow(dead_code)]\n{}" + NAMED, "mod block{number} {{\n{}}}\n"):
         file.rename(folder / f"copy/examples/rust/src/bin/{file.stem}.rs")
     built = run(["cargo", "build", *CARGO], cwd=folder / "copy/examples/rust", env=environment)
     compare("cargo build of the example", ("", 0), built)
     same("the example in Rust", [folder / "target/debug/vet"], files)
     signs_from_rust(folder / "target/debug/sign")
-    names_from_rust(folder / "target/debug/in-process")
+    names_from_rust(folder / "target/debug/rust")
     receives_from_rust(folder / "target/debug/receive", files, folder)
 
 
@@ -419,12 +384,11 @@ def main():
         files = inputs(folder)
         environment = {**os.environ, "PKG_CONFIG_PATH": str(prefix / "lib/pkgconfig")}
         described(prefix, environment)
-        as_shown(folder)
         from_c(folder, environment, files)
         signs_from_c(folder, environment)
         from_cplusplus(folder, environment, files)
         names_from_cplusplus(folder, environment)
-        from_rust(folder, environment, files)
+        from_rust(folder, files)
         environment["PKG_CONFIG_PATH"] = str(stage / "opt/capvet/lib/pkgconfig")
         environment["PKG_CONFIG_SYSROOT_DIR"] = str(stage)
         expected = [f"-I{stage}/opt/capvet/include", f"-L{stage}/opt/capvet/lib", "-lcapvet"]

@@ -4,11 +4,11 @@
     live.py [PROGRAM]
 
 A message and a part of the next one come in one write, for each length of the part, or for some if the message is long.
-The result of the first has to come within 0.2 s, before anything more is sent. The command has to write what it writes of
-a file. A case that is late is tried again, since the machine may do other work: a result that is held back comes in no
-trial. Another case counts the writes of a command: small messages have to share them. The last line is 'N passed, M
-failed', and the status is 1 if a case failed.
+The result of the first has to come before the command waits for more input. So no case depends on how fast the machine is.
+The command has to write what it writes of a file. Another case counts the writes of a command: small messages have to share
+them. The last line is 'N passed, M failed', and the status is 1 if a case failed.
 """
+import fcntl
 import os
 import random
 import select
@@ -17,14 +17,17 @@ import struct
 import subprocess
 import sys
 import tempfile
+import termios
 import time
+from pathlib import Path
 
 from amount import cases
 from harness import PROGRAM, TOP, ended, expect, framed
 from packing import packed
 
-SECONDS, TRIALS, BUFFER = 0.2, 5, 65536
-COMMANDS = ("segments", "vet", "vet --exclusive", "explain", "dump", "get /p0", "check", "canon", "filter", "filter --pack")
+# How long a case waits for a command, in seconds: only a hang takes longer.
+SECONDS, BUFFER = 180, 65536
+COMMANDS = ("segments", "vet", "vet --exclusive", "explain", "dump", "get /p0", "check", "canon", "hash", "filter", "filter --pack")
 
 
 def with_list(words):
@@ -98,11 +101,21 @@ class Live:
             if can_send:
                 data = data[os.write(self.ran.stdin.fileno(), data[:BUFFER]):]
 
+    def waits(self):
+        """Whether the command has taken all of its input and sleeps, or has ended. What it has written by then is there."""
+        unread = struct.unpack("i", fcntl.ioctl(self.ran.stdin.fileno(), termios.FIONREAD, bytes(4)))[0]
+        state = Path(f"/proc/{self.ran.pid}/stat").read_text().rsplit(")", 1)[1].split()[0]
+        return state == "Z" or unread == 0 and state == "S"
+
     def comes(self, length):
-        """Whether this many bytes have come in all within the time."""
+        """Whether this many bytes have come in all before the command waits."""
         end = time.monotonic() + SECONDS
-        while len(self.text) < length and (left := end - time.monotonic()) > 0:
-            if select.select([self.ran.stdout], [], [], left)[0] and not self.take():
+        while len(self.text) < length and time.monotonic() < end:
+            # (it may also sleep since its output is full)
+            is_over = self.waits()
+            if select.select([self.ran.stdout], [], [], 0 if is_over else 0.001)[0]:
+                is_over = not self.take()
+            if is_over:
                 break
         return len(self.text) >= length
 
@@ -121,11 +134,7 @@ def late(command, given, parts, least):
 
 
 def halves(command, name, given, parts, least):
-    found = None
-    for _ in range(TRIALS):
-        found = late(command, given, parts, least)
-        if found is None:
-            break
+    found = late(command, given, parts, least)
     expect(f"capvet {command}, {name} and a part of the next", found is None, found)
 
 

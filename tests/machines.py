@@ -44,14 +44,14 @@ MANY = cases(1_000, full=50_000)  # changed messages by each command and each ca
 PIECE = 1_000
 SEED = 20260801
 ARM_ROOT = "/usr/aarch64-linux-gnu"
-ARENA, OUT, INPUT, SECOND, LIMITS = 1 << 24, 1 << 20, 1 << 13, 64, 0
+ARENA, OUT, INPUT, SECOND, LIMITS = 1 << 24, 1 << 20, 1 << 13, 128, 0
 # The range that a call fills: a report, two numbers, a state, and a buffer.
-REPORT, REQUIRED, CONSUMED, STATE, BUFFER = OUT, OUT + 96, OUT + 104, OUT + 112, OUT + 144
+REPORT, REQUIRED, CONSUMED, STATE, BUFFER = OUT, OUT + 120, OUT + 128, OUT + 136, OUT + 168
 NULL = 2**64 - 1
 # The calls that give a size for a length, and lengths of 32 bits for them.
 BOUNDS = range(17, 21)
 SIZES = (0, 1, 511, 512, 3144, 2**31, 3435973836, 3435973840, 2**32 - 32777, 2**32 - 32776, 2**32 - 1)
-COMMANDS = ("vet", "vet --strict --unamplified", "vet --exclusive", "explain", "explain --exclusive", "segments", "dump", "check", "canon", "filter --exclusive",
+COMMANDS = ("vet", "vet --strict --unamplified", "vet --exclusive", "explain", "explain --exclusive", "segments", "dump", "check", "canon", "hash", "filter --exclusive",
             "get /p0/i1/p4", "vet --words 40 --depth 3", "pack", "unpack", "vet --packed")
 
 
@@ -71,8 +71,9 @@ def call(number, arguments, size=0, writes=(), addresses=()):
 
 def some_limits(chance):
     words, charge = chance.choice((8388608, 8388608, 2**28, 400, 20, 2**28 + 1)), chance.choice((8388608, 8388608, 2**31, 300, 9))
-    depth, flags = chance.choice((64, 64, 256, 5, 257)), chance.choice((0, 1, 7, 7, 7, 3, 5, 8, 14, 16))
-    return struct.pack("<QQIIQQ", words, charge, depth, flags, 0, chance.choice((0,) * 30 + (1,)))
+    depth, flags = chance.choice((64, 64, 256, 5, 257)), chance.choice((0, 3, 3, 3, 3, 1, 2, 4))
+    form = chance.choice((0, 0, 1, 1, 1, 1, 2, 2, 3))
+    return struct.pack("<QQIIII6Q", words, charge, depth, flags, form, 0, 0, 0, 0, 0, 0, chance.choice((0,) * 30 + (1,)))
 
 
 def some_path(chance):
@@ -101,19 +102,24 @@ def described(message, text, chance):
     over, frame = (where, len(message), LIMITS), (REQUIRED, REPORT)
     path, (count, steps), nodes = some_path(chance), some_steps(chance), chance.randrange(6)
     parts, array, addresses = slices(message, where)
+    extents = chance.choice((0, 1, 2, 512))
     yield b"w" + prepared([(LIMITS, limits), (where, message)])
     yield call(2, (*over, REPORT))
     yield call(3, (*over, BUFFER, size // 8, *frame), size // 8 * 8)
     yield call(4, (SECOND, parts, LIMITS, REPORT), 0, [(SECOND, array)], addresses)
     yield call(5, (*over, REPORT))
-    yield call(6, (where, len(message), chance.randrange(4), REQUIRED, CONSUMED))
+    yield call(6, (*over, BUFFER, extents, *frame), 16 * extents)
     yield call(7, (*over, BUFFER, size, *frame), size)
     yield call(8, (*over, REPORT))
+    yield call(22, (*over, REPORT))
+    yield call(24, (*over, REPORT))
     yield call(9, (*over, SECOND, len(path), BUFFER, REPORT), 56, [(SECOND, path)])
     yield call(10, (*over, SECOND, count, chance.randrange(count + 1), BUFFER, nodes, *frame), 56 * nodes, [(SECOND, steps)])
     yield call(15, (*over, chance.choice((0, 1, 2, 3, 5, 9, 20, 2**40)), BUFFER, size // 8, *frame), size // 8 * 8)
     yield call(21, (*over, chance.choice((0, 1, 2, 3, 5, 9, 20, 2**40)), REPORT))
     yield call(16, (*over, BUFFER, size, *frame), size)
+    number = chance.choice((0, 1, 2, 3, 5, 9, 20, 2**40))
+    yield call(23, (*over, chance.randrange(2), chance.randrange(9), number, BUFFER, size, *frame), size)
     yield call(11, (where, len(message), BUFFER, size, REQUIRED), size)
     yield call(13, (*over, BUFFER, size, *frame), size)
     yield b"w" + prepared([(where, text)])
@@ -127,7 +133,7 @@ def pieces():
     chance, whole = random.Random(SEED), samples()
     small = [message for message in whole if len(message) < 5000]
     bounds = b"".join(call(number, (size,)) for number in BOUNDS for size in SIZES)
-    first = call(0, ()) + call(1, (BUFFER,), 40) + bounds
+    first = call(0, ()) + call(1, (BUFFER,), 80) + bounds
     for _ in range(0, MANY, PIECE):
         listed = [first]
         for _ in range(min(MANY, PIECE)):

@@ -1,18 +1,26 @@
 """What the calls from C answer and report for bytes, as docs/format.md and include/capvet.h define it, field by field.
 It shares no code with the library, and only `bits` and `offset` of tests/trees.py with other tests."""
 import struct
-from dataclasses import dataclass
+from dataclasses import dataclass, replace
 
 from trees import bits, offset
 
 ANSWERS = dict(
     OK=0, NO_MESSAGE=1, TOO_MANY_SEGMENTS=2, TOO_LARGE=3, TRUNCATED=4, TRAILING=5, BAD_LIMITS=8, BUFFER_TOO_SMALL=9,
-    NO_SEGMENT=11, BAD_SEGMENT=12, NOT_CANONICAL=16, HAS_CAPABILITY=17, OVERLAP=18, NullPad=19, EmptySegment=20, CapabilityPad=22, MANY_SEGMENTS=23,
+    BAD_SEGMENT=12, NOT_CANONICAL=16, HAS_CAPABILITY=17, OVERLAP=18, NullPad=19, EmptySegment=20, CapabilityPad=22, MANY_SEGMENTS=23,
     NO_ROOT=32, RESERVED=33, SEGMENT_MISSING=34, PAD_OUTSIDE=35, PAD_IS_FAR=36, PAD_NOT_FAR=37, TAG_KIND=38,
     TAG_OFFSET=39, OUT_OF_SEGMENT=40, COMPOSITE_TAG=41, COMPOSITE_OVERRUN=42, DEPTH_LIMIT=43, WORD_LIMIT=44)
-FRAME, VET, EXCLUSIVE, CANONICAL, IS_CANONICAL, SEGMENT_AT, VET_SEGMENTS = range(7)
+FRAME, VET, EXCLUSIVE, CANONICAL, CHECK, SEGMENTS, VET_SEGMENTS, CHECK_WORDS, DIFFERENCE = range(9)
+# The reasons of first differences, in the order of their numbers. The first is 1.
+DIFFERENCES = ("Segments", "Far", "Capability", "EmptyStruct", "Place", "Bits", "EmptyList", "Surplus", "DataZero", "PointerNull",
+               "Trailing")
+# What limits allow and what form the input has, as bits of these tests. The bits 1 and 8 together are an unknown form, and those
+# above are unknown flags.
 TRAILING, NONSTRICT, AMPLIFIED, NO_TABLE = 1, 2, 4, 8
-FIELDS = ("length", "input_required", "detail", "charge", "pointers", "capabilities", "depth", "segments", "segment", "word")
+FIELDS = ("length", "input_required", "detail", "charge", "pointers", "capabilities", "depth", "segments", "segment", "word",
+          "words")
+# The layout of a report: its fields, and how many reserved numbers follow them.
+REPORT, RESERVED = "6Q4IQ6Q", 6
 ELEMENT_BITS = (0, 1, 8, 16, 32, 64, 64)
 # How many segments a strict message may have, and how many words more than its own an unamplified one may be charged.
 MOST_SEGMENTS = 511
@@ -25,16 +33,25 @@ class Limits:
     charge: int = 8388608
     depth: int = 64
     flags: int = 0
-    reserved: tuple = (0, 0)
+    reserved: tuple = (0,) * 6
+    padding: int = 0
 
     def packed(self):
-        return struct.pack("<QQII2Q", self.message_words, self.charge, self.depth, self.flags, *self.reserved)
+        form, flags = self.flags & TRAILING | (self.flags & NO_TABLE) >> 2, self.flags >> 1 & 3 | self.flags >> 4 << 2
+        return struct.pack("<QQIIII6Q", self.message_words, self.charge, self.depth, flags, form, self.padding, *self.reserved)
+
+    def of_copy(self):
+        """Those for the words of a canonical form, which have no table, may be amplified, and may be one more than the charge."""
+        if self.flags & TRAILING and self.flags & NO_TABLE:
+            return self
+        words = max(self.message_words, min(self.charge, (1 << 28) - 1) + 1)
+        return replace(self, message_words=words, flags=self.flags & NONSTRICT | NO_TABLE | AMPLIFIED | self.flags >> 4 << 4)
 
     def are_good(self, call):
-        known = self.flags <= 7 or (call not in (FRAME, VET_SEGMENTS) and self.flags in (NO_TABLE, NO_TABLE | NONSTRICT, NO_TABLE | AMPLIFIED,
+        known = self.flags <= 7 or (call not in (FRAME, SEGMENTS, VET_SEGMENTS) and self.flags in (NO_TABLE, NO_TABLE | NONSTRICT, NO_TABLE | AMPLIFIED,
                                                                     NO_TABLE | NONSTRICT | AMPLIFIED))
         return (self.message_words <= 1 << 28 and self.charge <= 1 << 28 and self.depth <= 256 and known
-                and self.reserved == (0, 0))
+                and not any(self.reserved) and not self.padding)
 
 
 class Refused(Exception):
@@ -256,6 +273,63 @@ def canonical(message):
     return out
 
 
+def ends_in_null(message, found, element):
+    """Whether the struct of this list, or this struct, has a last pointer that denotes null."""
+    data, pointers = found.sizes[-2:]
+    return pointers and followed(message, found.segment, element + data + pointers - 1).kind == "null"
+
+
+def differs(message, place, found, end):
+    """Why this pointer isn't as a canonical copy has it, with its object at word `end`, or None. The first reason that holds."""
+    segment, at = place
+    word = message[segment][at]
+    if bits(word, 0, 2) == 2:
+        return "Far"
+    if found.kind == "cap":
+        return "Capability"
+    if found.kind == "null":
+        return None
+    if found.kind == "struct" and found.words == 0:
+        return None if word == 0xFFFFFFFC else "EmptyStruct"
+    if found.start != end:
+        return "Place"
+    words = message[segment]
+    if found.kind == "list":
+        left = ELEMENT_BITS[found.sizes[0]] * found.sizes[1] % 64
+        return "Bits" if left and words[end + found.words - 1] >> left else None
+    elements = []
+    if found.kind == "struct":
+        elements = [end]
+    if found.kind == "structs":
+        count, step = found.sizes[0], sum(found.sizes[1:])
+        if count == 0 and step:
+            return "EmptyList"
+        if 1 + count * step != found.words:
+            return "Surplus"
+        elements = range(end + 1, end + found.words, step) if step else []
+    if elements:
+        data = found.sizes[-2]
+        if data and all(words[element + data - 1] == 0 for element in elements):
+            return "DataZero"
+        if all(ends_in_null(message, found, element) for element in elements):
+            return "PointerNull"
+    return None
+
+
+def difference(message, tree):
+    """The first difference of an accepted message from its canonical copy, or None: the reason, the segment, the word and the
+    number of the pointer."""
+    if len(message) != 1:
+        return "Segments", 0, 0, 0
+    end = 1
+    for number, (place, found) in enumerate(tree.steps, 1):
+        reason = differs(message, place, found, end)
+        if reason:
+            return reason, *place, number
+        end += found.words
+    return ("Trailing", 0, end, tree.pointers) if end < len(message[0]) else None
+
+
 def unframed(data, limits):
     """The segments that the bytes start with, and the length of their frame. Otherwise the answer with its fields."""
     if not data:
@@ -325,30 +399,30 @@ def taken(call, data, limits, size):
 
 
 def called(call, data, limits, size):
-    """The answer of a call, what it sets `required` to, the fields of its report, and the bytes that it writes. Of a segment
-    `size` is the number, `required` is where it starts, and the report has its length. Of separate segments it is how many
-    they are."""
+    """The answer of a call, what it sets `required` to, the fields of its report, and the bytes that it writes. Of separate
+    segments `size` is how many they are."""
 
     def result(answer, count=0, out=b"", **fields):
         return ANSWERS[answer], count, tuple(fields.get(name, 0) for name in FIELDS), out
 
-    if call == SEGMENT_AT:
-        message, frame = unframed(data, Limits(message_words=1 << 28))
-        if message is None:
-            return result(frame[0])
-        if size >= len(message):
-            return result("NO_SEGMENT")
-        return result("OK", frame - 8 * sum(map(len, message[size:])), length=8 * len(message[size]))
+    if call == CHECK_WORDS:
+        return called(CHECK, data, limits.of_copy(), size)
     if not limits.are_good(call):
         return result("BAD_LIMITS")
     message, frame = taken(call, data, limits, size)
     if message is None:
         answer, fields = frame
         return result(answer, **fields)
-    extent = dict(length=frame, segments=len(message))
+    extent = dict(length=frame, segments=len(message), words=sum(map(len, message)))
     if call == FRAME:
         return result("OK", **extent)
-    if call != VET_SEGMENTS and len(data) > frame and (call == IS_CANONICAL or not limits.flags & TRAILING):
+    if call == SEGMENTS:
+        if size < len(message):
+            return result("BUFFER_TOO_SMALL", len(message), **extent)
+        ends = [frame - 8 * sum(map(len, message[number:])) for number in range(len(message))]
+        places = b"".join(struct.pack("<QQ", end, 8 * len(words)) for end, words in zip(ends, message))
+        return result("OK", len(message), places, **extent)
+    if call != VET_SEGMENTS and len(data) > frame and (call in (CHECK, DIFFERENCE) or not limits.flags & TRAILING):
         return result("TRAILING", detail=len(data) - frame, **extent)
     words = sum(map(len, message))
     charge = limits.charge if limits.flags & AMPLIFIED else min(limits.charge, words + SLACK)
@@ -366,14 +440,21 @@ def called(call, data, limits, size):
             return result("OK", marks, **numbers)
     except Refused as fault:
         answer, segment, word, pointers = fault.args
-        return result(answer, marks if answer == "OVERLAP" else 0, segment=segment, word=word, pointers=pointers, **extent)
+        # (of a charge above the limit that limit)
+        detail = charge if answer == "WORD_LIMIT" else 0
+        return result(answer, marks if answer == "OVERLAP" else 0, segment=segment, word=word, pointers=pointers, detail=detail, **extent)
     if call in (VET, VET_SEGMENTS):
         return result("OK", **numbers)
-    if tree.capabilities:
-        return result("HAS_CAPABILITY" if call == CANONICAL else "NOT_CANONICAL", **numbers)
-    copy = canonical(message)
-    if call == IS_CANONICAL:
-        return result("OK" if len(message) == 1 and list(message[0]) == copy else "NOT_CANONICAL", **numbers)
+    copy = None if tree.capabilities else canonical(message)
+    if call in (CHECK, DIFFERENCE):
+        if len(message) == 1 and list(message[0]) == copy:
+            return result("OK", **numbers)
+        if call == DIFFERENCE:
+            reason, segment, word, pointers = difference(message, tree)
+            numbers |= dict(detail=DIFFERENCES.index(reason) + 1, segment=segment, word=word, pointers=pointers)
+        return result("NOT_CANONICAL", **numbers)
+    if copy is None:
+        return result("HAS_CAPABILITY", **numbers)
     if size < 8 * len(copy):
         return result("BUFFER_TOO_SMALL", 8 * len(copy), **numbers)
     return result("OK", 8 * len(copy), struct.pack(f"<{len(copy)}Q", *copy), **numbers)

@@ -21,20 +21,21 @@ import tempfile
 import urllib.request
 from pathlib import Path
 
-# Where Debian's packages of crates put them.
-CRATES = Path("/usr/share/cargo/registry")
+TOP = Path(__file__).resolve().parent.parent
+# The folder of crates: where Debian's packages put them, or the one that the variable CAPVET_CRATES names.
+CRATES = Path(os.environ.get("CAPVET_CRATES", "/usr/share/cargo/registry"))
 # The minor version of Rust that the crates need.
 LEAST_RUST = 63
 # Commands, each with its package.
 COMMANDS = {"aarch64-linux-gnu-gcc": "gcc-aarch64-linux-gnu libc6-dev-arm64-cross", "arch-test": "arch-test", "bash": "bash",
             "buildah": "buildah", "c++": "g++", "capnp": "capnproto", "cargo": "cargo", "cargo-clippy": "rust-clippy",
-            "cc": "gcc libc6-dev", "chromium": "chromium", "clang": "clang", "clang++": "clang", "cmake": "cmake", "dpkg": "dpkg",
+            "cc": "gcc libc6-dev", "chromium": "chromium", "clang": "clang", "clang++": "clang", "cmake": "cmake", "coqc": "coq", "dpkg": "dpkg",
             "dpkg-deb": "dpkg", "dpkg-scanpackages": "dpkg-dev", "esbuild": "esbuild", "fish": "fish", "g++": "g++", "gcc": "gcc libc6-dev", "git": "git",
-            "go": "golang-go", "go-staticcheck": "go-staticcheck", "jq": "jq", "lintian": "lintian", "llvm-cov-14": "llvm-14",
-            "make": "make", "man": "man-db", "mmdebstrap": "mmdebstrap", "mypy": "mypy", "node": "nodejs", "npm": "npm", "openssl": "openssl",
+            "go": "golang-go", "go-staticcheck": "go-staticcheck", "haproxy": "haproxy", "jq": "jq", "lintian": "lintian", "llvm-cov-14": "llvm-14",
+            "make": "make", "man": "man-db", "mmdebstrap": "mmdebstrap", "mypy": "mypy", "node": "nodejs", "npm": "npm", "ocamlopt": "ocaml", "openssl": "openssl",
             "parallel": "parallel", "pkg-config": "pkg-config", "qemu-aarch64": "qemu-user",
             "qemu-aarch64-static": "qemu-user-static", "qemu-s390x": "qemu-user", "qemu-x86_64": "qemu-user", "readelf": "binutils", "rt": "",
-            "rustc": "rustc", "rustfmt": "rustfmt", "socat": "socat", "tsc": "node-typescript", "twine": "twine", "unzip": "unzip", "valgrind": "valgrind",
+            "rustc": "rustc", "rustfmt": "rustfmt", "socat": "socat", "systemd-analyze": "systemd", "tsc": "node-typescript", "twine": "twine", "unzip": "unzip", "valgrind": "valgrind",
             "wasm-opt": "binaryen", "wine": "wine wine64", "x86_64-w64-mingw32-gcc": "gcc-mingw-w64-x86-64", "zsh": "zsh"}
 # Modules of Python, by the name of what they are for.
 MODULES = {"wheel": ("cffi, setuptools, venv, wheel", "python3-cffi python3-setuptools python3-venv python3-wheel"),
@@ -47,8 +48,10 @@ LIBRARIES = {"libcapnp": (("pkg-config", "--exists", "capnp-rpc"), "libcapnp-dev
 # Crates, by their folders.
 SOURCES = {"crates": ("itoa-1.*", "librust-arrayvec-dev librust-byteorder-dev librust-hex-dev librust-itoa-dev"),
            "crate-clap": ("clap-4.*", "librust-clap-dev"),
-           "crate-capnp": ("capnp-0.14.*", "librust-capnp-dev"),
-           "crate-capnp-rpc": ("capnp-rpc-0.14.*", "librust-capnp-rpc-dev librust-futures-dev"),
+           "crate-sha2": ("sha2-0.1[01].*", "librust-sha2-dev"),
+           "crate-capnp": ("capnp-0.*", "librust-capnp-dev"),
+           "crate-capnp-rpc": ("capnp-rpc-0.*", "librust-capnp-rpc-dev librust-futures-dev"),
+           "crate-capnpc": ("capnpc-0.*", "librust-capnpc-dev"),
            "crate-tokio": ("tokio-util-0.7.*", "librust-tokio-dev librust-tokio-util-dev")}
 # Compilers, each with its language. (their packages only recommend the headers and libraries that a program needs)
 COMPILERS = {"aarch64-linux-gnu-gcc": "c", "cc": "c", "gcc": "c", "clang": "c", "c++": "c++", "g++": "c++", "clang++": "c++"}
@@ -63,8 +66,11 @@ DESCRIPTORS = 10100
 OLDEST_RUST = Path("/usr/bin")
 # The compilers' own libraries for checks of memory.
 CHECKS = {"checks-clang": ("clang++", "libclang-rt-14-dev"), "checks-gcc": ("c++", "libgcc-12-dev")}
+# What is made of this tree, each with the command that makes it.
+MADE = {"proved-crates": "make build"}
 # The packages of each name.
-NEEDS = COMMANDS | {"oldest-rust": "cargo rustc", "rust-for-windows": "libstd-rust-dev-windows", "root": "", "descriptors": "", "debian-mirror": ""} | {
+NEEDS = COMMANDS | dict.fromkeys(MADE, "") | {"oldest-rust": "cargo rustc", "rust-for-wasi": "libstd-rust-dev-wasm32 wasi-libc lld-14",
+                    "rust-for-windows": "libstd-rust-dev-windows", "root": "", "descriptors": "", "debian-mirror": ""} | {
     name: packages for part in (MODULES, LIBRARIES, SOURCES, GO_LIBRARIES, CHECKS) for name, (_, packages) in part.items()}
 
 
@@ -83,7 +89,7 @@ def succeeds(command, **how):
 def is_there(address):
     """Whether a server has a file."""
     try:
-        urllib.request.urlopen(address, timeout=20).close()
+        urllib.request.urlopen(address, timeout=120).close()
     except OSError:
         return False
     return True
@@ -103,6 +109,18 @@ def python_with(modules):
         if succeeds((name, "-c", f"import {modules}")):
             return shutil.which(name)
     return None
+
+
+def minors(folder=CRATES):
+    """The minor versions of the crate `capnp` in a folder of crates, the newest first."""
+    found = {int(it[1]) for path in folder.glob("capnp-0.*") if (it := re.fullmatch(r"capnp-0\.(\d+)\.\d+", path.name))}
+    return [f"0.{number}" for number in sorted(found, reverse=True)]
+
+
+@functools.cache
+def capnp():
+    """The minor version of the crate `capnp` that the tests use on this machine."""
+    return minors()[0]
 
 
 def compiles(compiler, language, *options):
@@ -125,10 +143,17 @@ def has(name):
         return mirror() != "" and is_there(f"{mirror()}/dists/bookworm/Release")
     if name == "root":
         return os.geteuid() == 0
+    if name == "proved-crates":
+        return is_kept("wasm") or has("rt") and (TOP / "crates/cap_calls/out/rlib/cap_calls.rlib").is_file()
     if name == "oldest-rust":
         return all((OLDEST_RUST / tool).exists() for tool in ("cargo", "rustc"))
+    if name == "rust-for-wasi":
+        return any(Path("/usr/lib/rustlib/wasm32-wasi/lib").glob("libcore-*")) and has("lld-14") and Path("/usr/lib/wasm32-wasi").is_dir()
     if name == "rust-for-windows":
         return any(Path("/usr/lib/rustlib/x86_64-pc-windows-gnu/lib").glob("libcore-*"))
+    if name == "crate-capnpc" and minors() in ([], ["0.14"]):
+        # (Debian 12 has no package of it. For its `capnp` the tests have the code, written by hand)
+        return True
     if name in SOURCES:
         return any(CRATES.glob(SOURCES[name][0]))
     if name == "descriptors":
@@ -155,8 +180,19 @@ def path_without(tool, folder):
 
 def line(what, name):
     """The line that says what isn't tested without the thing of this name."""
-    remedy = f"install {NEEDS[name]}" if NEEDS[name] else "no package has it"
+    remedy = f"install {NEEDS[name]}" if NEEDS[name] else MADE.get(name, "no package has it")
     return f"not tested, without {name} ({remedy}): {what}"
+
+
+def is_kept(target):
+    """Whether build/ has what is built for another machine, beside the proved program and library that are there now."""
+    # (the source distribution for Python has this file without packaging/, which has files of one name with tests/)
+    sys.path.append(str(TOP / "packaging"))
+    try:
+        import targets
+    except ImportError:
+        return False
+    return targets.is_kept(target)
 
 
 def missing(what, *names):
@@ -168,7 +204,7 @@ def missing(what, *names):
 
 
 def main():
-    lacking = [name for name in NEEDS if not has(name)]
+    lacking = [name for name in NEEDS if name not in MADE and not has(name)]
     print("".join(f"{it}\n" for it in sorted({it for name in lacking for it in NEEDS[name].split()})), end="")
     unpackaged = [name for name in lacking if not NEEDS[name]]
     for name in unpackaged:

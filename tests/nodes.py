@@ -15,7 +15,7 @@ import model
 from amount import cases
 from harness import compare, expect, framed, over_file, under_valgrind
 from made import changed, made_up
-from model import FIELDS, SLACK, Limits, Refused, followed, lax_form, unframed
+from model import FIELDS, REPORT as REPORTED, SLACK, Limits, Refused, followed, lax_form, unframed
 from needs import missing
 from trees import BITS, bits, hexadecimal
 
@@ -23,8 +23,8 @@ ANSWERS = model.ANSWERS | dict(BAD_PATH=10, NO_NODE=21)
 KINDS = dict(null=0, struct=1, list=2, pointers=3, structs=4, cap=5)
 NODE = ("kind", "element", "count", "data_words", "pointers", "capability", "offset", "length")
 # the answer, the node and the report, with the reserved fields
-REPLY = struct.Struct("<I6I2Q2Q6Q4I4Q")
-NODE_FIELDS, REPORT = struct.Struct("<6I2Q2Q"), struct.Struct("<6Q4I4Q")
+REPLY = struct.Struct(f"<I6I2Q2Q{REPORTED}")
+NODE_FIELDS, REPORT = struct.Struct("<6I2Q2Q"), struct.Struct(f"<{REPORTED}")
 MANY = cases(20_000, full=100_000)  # paths
 RANGES = cases(10_000, full=40_000)  # ranges of paths
 LEAST = MANY // 5
@@ -161,7 +161,7 @@ def frame_of(data, limits, bad_step):
     if message is None:
         answer, fields = frame
         return result(answer, **fields)
-    extent = dict(length=frame, segments=len(message))
+    extent = dict(length=frame, segments=len(message), words=sum(map(len, message)))
     if len(data) > frame and not limits.flags & model.TRAILING:
         return result("TRAILING", detail=len(data) - frame, **extent)
     return message, extent
@@ -180,7 +180,9 @@ def along(message, extent, limits, steps):
                 raise Refused(*walk.lax)
     except Refused as fault:
         answer, segment, word, pointers = fault.args
-        return result(answer, segment=segment, word=word, pointers=pointers, **extent)
+        # (of a charge above the limit that limit)
+        detail = words if answer == "WORD_LIMIT" else 0
+        return result(answer, segment=segment, word=word, pointers=pointers, detail=detail, **extent)
     return result("OK", node_fields(message, walk.found), **extent) if leads else result("NO_NODE", **extent)
 
 
@@ -230,7 +232,7 @@ def requests(samples, chance):
         if chance.randrange(8) == 0:
             limits = Limits(charge=chance.randrange(40), depth=chance.randrange(5), flags=flags)
         if chance.randrange(200) == 0:
-            limits = chance.choice((Limits(flags=8), Limits(depth=257), Limits(charge=1 << 28 | 1), Limits(reserved=(0, 1))))
+            limits = chance.choice((Limits(flags=8), Limits(depth=257), Limits(charge=1 << 28 | 1), Limits(reserved=(0, 1, 0, 0, 0, 0))))
         if chance.randrange(50) == 0:
             data += chance.randbytes(chance.choice((1, 7, 8, 16)))
         for _ in range(4):
@@ -296,7 +298,7 @@ def compare_nodes(program, many):
         expected = got(data, limits, path)
         node, report = reply[1:11], reply[11:]
         expect(lambda: f"get {path} of {data.hex()} in {limits}",
-               (reply[0], node[:8], report[:10]) == expected and not any(node[8:] + report[10:]), lambda: f"{reply}\n  {expected}")
+               (reply[0], node[:8], report[:len(FIELDS)]) == expected and not any(node[8:] + report[len(FIELDS):]), lambda: f"{reply}\n  {expected}")
         answers[reply[0]] += 1
         if reply[0] >= 18 and reply[0] != ANSWERS["NO_NODE"]:
             on += 1
@@ -363,10 +365,10 @@ def by_hand():
             yield (THREE, Limits(), steps, varying, count, odd), expected
     for first, count, *expected in (0, 3, "NO_NODE", 1, 0), (1, 2, "NO_NODE", 0, 0), (2, 1, "OK", 1, 0), (2, 2, "NO_NODE", 1, 0):
         yield (GAP, Limits(), ((0, 0), (1, first), (0, 0)), 1, count, 0), expected
-    for limits in (Limits(flags=8), Limits(flags=16), Limits(depth=257), Limits(reserved=(0, 1))):
+    for limits in (Limits(flags=8), Limits(flags=16), Limits(depth=257), Limits(reserved=(0, 1, 0, 0, 0, 0))):
         yield (THREE, limits, ((2, 0),), 3, 2, 0), ["BAD_LIMITS", 0, 0]
     for data, limits, *expected in (
-            (DEEPER, Limits(), "OK", 2, 0), (DEEPER, Limits(charge=4), "WORD_LIMIT", 1, 0),
+            (DEEPER, Limits(), "OK", 2, 0), (DEEPER, Limits(charge=4), "WORD_LIMIT", 1, 4),
             (DEEPER, Limits(depth=1), "DEPTH_LIMIT", 1, 0), (FAR, Limits(), "NullPad", 1, 0), (FAR, Limits(flags=2), "OK", 2, 0),
             (DEEPER + bytes(3), Limits(), "TRAILING", 0, 3), (DEEPER + bytes(3), Limits(flags=1), "OK", 2, 0),
             (DEEPER[:-1], Limits(), "TRUNCATED", 0, 0)):
@@ -437,9 +439,9 @@ def compare_ranges(program, many):
         at += REPORT.size
         expected = got_range(data, limits, steps, varying, count)
         # (the fields of a node and of a report are followed by reserved ones)
-        reserved = [*report[10:], *(field for node in found for field in node[len(NODE):])]
+        reserved = [*report[len(FIELDS):], *(field for node in found for field in node[len(NODE):])]
         expect(lambda: f"range {steps} {varying} {count} of {data.hex()} in {limits}",
-               (answer, [node[:len(NODE)] for node in found], report[:10]) == expected and not any(reserved),
+               (answer, [node[:len(NODE)] for node in found], report[:len(FIELDS)]) == expected and not any(reserved),
                lambda: f"{answer} {found} {report}\n  {expected}")
         made.append((answer, number, report))
     expect("a reply to each call for a range", (len(made), at) == (len(many), len(replies)), len(made))

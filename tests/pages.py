@@ -6,7 +6,7 @@
 A block of a page that has lines '$ COMMAND' is run line by line in a folder with the samples. Each command has to print
 exactly what the page shows after it. A block of docs/proofs.md has to be in a file that the page names, or what the prover
 reported when build/ was made. A block of shell there has to run at the top of the repository. Links lead to a file and to a heading that exist, and files that a page
-names exist. The pages that packaging/written/write.py makes are what it would write. The pages, the manual pages, the header
+names exist. The recipes of docs/guide.md are short, and their commands are run. The pages that packaging/written/write.py makes are what it would write. The pages, the manual pages, the header
 and help have no word of tests/words.md, no sentence of more than 40 words, and one tagline. The numbers of limits in pages,
 examples and headers have names. No page has control characters, and the manual page has each exit status. The last line is
 'N passed, M failed', and the status is 1 if a case failed.
@@ -20,19 +20,29 @@ from pathlib import Path
 
 from harness import PROGRAM, TOP, compare, ended, run
 from helps import HELPS
+from needs import missing
 
 PAGES = ("README.md", "SECURITY.md", "docs/guide.md", "docs/service.md", "docs/output.md", "docs/format.md")
-MARKDOWN = ("README.md", "CHANGELOG.md", "CONTRIBUTING.md", "SECURITY.md",
-            *(str(path.relative_to(TOP)) for path in sorted((TOP / "docs").rglob("*.md"))))
+MARKDOWN = ("README.md", "CHANGELOG.md", "CONTRIBUTING.md", "SECURITY.md", "mirror/coq/README.md",
+            *(str(path.relative_to(TOP)) for path in sorted((*TOP.glob("docs/**/*.md"), *TOP.glob("crates/*/README.md")))))
 TAGLINE = "untrusted Cap'n Proto messages without a schema"
 TAGGED = ("README.md", "docs/capvet.1", "docs/capvet.3", "include/capvet.h", "capvet.pc.in", "crates/cap_commands/src/commands.rt",
-          "bindings/rust/Cargo.toml", "bindings/rust/src/lib.rs", "packaging/README-archive.md", "packaging/README-debian.md", "packaging/debian/capvet/control",
-          "bindings/go/capvet.go")
+          "rust/capvet/Cargo.toml", "rust/capvet/README.md", "bindings/go/capvet.go", "packaging/README-archive.md",
+          "packaging/README-debian.md", "packaging/debian/capvet/control")
 LONGEST = 40
 BLOCK = re.compile(r"^```(\w*)\n(.*?)^```$", re.M | re.S)
+# What docs/guide.md begins with, and the most words of each.
+RECIPES = ("I run a service", "I sign messages", "I have an archive", "I got a refusal", "I review the proofs")
+MOST_WORDS = 300
+# The most words of docs/accepted.md.
+MOST_TO_ACCEPT = 4000
+# The programs of the recipes that other scripts run by what the guide has.
+RUN_BY = {"capvet-guard": "guard.py", "make -C mirror/coq": "mirror.py"}
+# The most words of README.md, without what only divides cells.
+MOST_OF_README = 800
 # What a script writes of the prover's report on a crate.
 REPORT = re.compile(r"^<!-- report of \w+ -->\n```\n(.*?)^```$", re.M | re.S)
-# Limits whose numbers have no names, in C and in C++: what a reader can't tell apart.
+# Limits whose numbers have no names, in C and in C++: a reader can't distinguish them.
 POSITIONAL = re.compile(r"\b(?:capvet_limits|Options)(?: \w+)?(?:\[\])? ?=? ?\{+ *\w|\blimits = \{ *\w")
 
 
@@ -48,10 +58,62 @@ def shown(page):
         shutil.copytree(TOP / "examples", Path(folder) / "examples")
         count = 0
         for _, block in BLOCK.findall((TOP / page).read_text()):
+            if "openssl pkey" in block and missing(f"commands of {page} with openssl", "openssl"):
+                continue
             for command, expected in commands(block):
                 compare(f"{page}: {command}", expected, run(["bash", "-c", command], cwd=folder, env=environment)[0])
                 count += 1
         compare(f"{page} shows commands", True, count > 0)
+
+
+def recipes():
+    """The guide begins with its recipes, none of them long, and each of their commands is run: the lines '$ COMMAND' by `shown`, and
+    of the blocks of shell those of tools/ here. Other scripts run the others, by the text of the guide."""
+    text = (TOP / "docs/guide.md").read_text()
+    sections = dict(part.split("\n", 1) for part in text.split("\n## ")[1:])
+    compare("the first sections of the guide", list(RECIPES), list(sections)[:len(RECIPES)])
+    targets = re.findall(r"[\w-]+", re.search(r"^\.PHONY: (run .*)$", (TOP / "Makefile").read_text(), re.M)[1])
+    for name in RECIPES:
+        recipe = re.sub(r"<!--.*?-->", "", sections[name], flags=re.S)
+        words = len(recipe.split())
+        compare(f"words of {name!r}, {words}, are at most {MOST_WORDS}", True, words <= MOST_WORDS)
+        blocks = BLOCK.findall(recipe)
+        compare(f"{name!r} has commands", True, any(language in ("console", "sh") for language, _ in blocks))
+        for line in "".join(block for language, block in blocks if language == "sh").splitlines():
+            script = next((script for begin, script in RUN_BY.items() if line.startswith(begin)), None)
+            if line.startswith("python3 tools/"):
+                compare(line, 0, run(line.split(), cwd=TOP)[1])
+            elif script:
+                compare(f"{script} runs {line!r} of the guide", True, "docs/guide.md" in (TOP / "tests" / script).read_text())
+            else:
+                # (these run this script, or the gate runs them)
+                compare(f"{line!r} exists", True, (TOP / line.split()[1]).is_file() if line.startswith("python3 ") else line.split()[1] in targets)
+    said = re.search(r"This page has the (\d+) lines of definitions", (TOP / "docs/accepted.md").read_text())[1]
+    compare("the page on an accepted message is short", True, len((TOP / "docs/accepted.md").read_text().split()) <= MOST_TO_ACCEPT)
+    compare("lines of definitions, by the guide", [said], re.findall(r"(\d+) lines\. A proof", sections[RECIPES[4]]))
+
+
+def front():
+    """README.md is short. Its lines of code are in a program of the page that each row links to, but for the names of variables: other
+    scripts compile these programs. Its numbers of speed are those of docs/speed.md, and its times those of other pages."""
+    text = (TOP / "README.md").read_text()
+    count = len([word for word in text.split() if word.strip("|#-")])
+    compare(f"words of README.md, {count}, are at most {MOST_OF_README}", True, count <= MOST_OF_README)
+    rows = re.findall(r"^\| [\w+]+ \| `([^`]+)` \| \[.*?\]\((docs/\w+\.md)\)", text, re.M)
+    compare("languages of README.md with a line", 6, len(rows))
+    for line, page in rows:
+        programs = "\n".join(block for _, block in BLOCK.findall((TOP / page).read_text()))
+        call = re.search(r"[\w:.]*[vV]et(?:ted)?\(.*?\)(?=;|\?|$| ==| !=)(?:\?\.into_reader\(\))?", line)[0]
+        compare(f"{page} has {call}", True, anonymous(call) in anonymous(programs))
+    speed = (TOP / "docs/speed.md").read_text()
+    compare("numbers of speed in README.md", re.findall(r"takes? (0\.\d to 0\.\d) of", speed), re.findall(r"(0\.\d to 0\.\d) of", text))
+    everywhere = (TOP / "docs/internals/testing.md").read_text() + (TOP / "tests/all.py").read_text()
+    compare("times of make prove", True, "takes 20 to 45 minutes on four cores" in everywhere and "20 to 45 minutes" in text)
+
+
+def anonymous(code):
+    """Code with one name for what a program may call its bytes."""
+    return re.sub(r"\b(bytes|received|data)\b", "bytes", re.sub(r"kj::mv\((\w+)\)", r"\1", code))
 
 
 def quoted(page):
@@ -94,7 +156,7 @@ def of_the_kit():
         compare("docs/proofs.md quotes rattle --help", True, said in run([kit / "rattle", "--help"])[0])
 
 
-# What is taken from the page of definitions, what is there instead, and the first fault that the script then finds.
+# What is taken from a page of definitions, what is there instead, and the first fault that the script then finds.
 LACKS = (
     ("TagFits IsInside}", "IsInside}", "Following.IsInside cites TagFits of cap_spec, Following, which is not on the page before it"),
     ("IsTag Leads}", "Leads IsTag}", "Following.Leads cites IsTag of cap_spec, Following, which is not on the page before it"),
@@ -106,33 +168,40 @@ LACKS = (
     (" `a % b`,", "", "Words.field uses %, which the notation doesn't explain"),
     (", `v.items`", "", "canonical uses .items, which the notation doesn't explain"),
     (", `Global`", "", "canonical uses Global, which the notation doesn't explain"),
-    ("Words: field", "Words: IsWord field", "nothing on the page cites Words.IsWord"),
+    ("Words: field", "Words: IsWord field", "nothing on the pages cites Words.IsWord"),
     ("`IsTrue b`, ", "`IsTrue b`, `IsFalse b`, ", "the notation explains IsFalse, which nothing uses"),
-    ("{part Strict and unamplified messages}", "{part Strict messages}", "the page has no part Strict messages"),
+    ("up to {part Exclusive messages}", "up to {part Messages}", "the page has no part Messages"),
 )
 
 
 def written():
-    """The pages that a script writes from the sources are up to date. It refuses a page of definitions that lacks one, and a
-    number of cases without a comment."""
+    """The pages that a script writes from the sources are up to date. It refuses pages of definitions that lack one, a theorem
+    of a clause that isn't there, and a number of cases without a comment."""
     folder = TOP / "packaging/written"
     sys.path.insert(0, str(folder))
+    import clauses
     import scripts
-    from believe import Page
-    from write import stale
+    from believe import both
+    from write import definitions, stale
     try:
         found = [file.name for file in stale()]
     except LookupError as fault:
         found = [fault.args[0]]
     compare("pages that are stale: run make pages", [], found)
-    template = (folder / "believe.md.in").read_text()
+    templates = definitions()
     for taken, left, expected in LACKS:
-        compare(f"the page of definitions has {taken}", 1, template.count(taken))
+        (name,) = [name for name, template in templates.items() if template.count(taken) == 1] or [None]
+        compare(f"a page of definitions has {taken}", True, name is not None)
         try:
-            said = f"{len(Page(template.replace(taken, left)).write())} characters"
+            said = f"{len(both({**templates, name: templates[name].replace(taken, left)}))} pages"
         except LookupError as fault:
             said = fault.args[0].split("\n")[0]
-        compare(f"the page of definitions without {taken}", expected, said)
+        compare(f"the pages of definitions without {taken}", expected, said)
+    try:
+        said = clauses.Page("{twice}", clauses.HEADLINE.read_text().replace("Theorem vet_ok ", "Theorem vet_okay ")).write()
+    except LookupError as fault:
+        said = fault.args[0]
+    compare("the page of clauses with a theorem of no clause", "cap_vet/src/walk/vetting.rt has no clause okay of vet", said)
     for comment, expected in (("  # messages", "| `some.py` | messages | 1 | 2,000 |"), ("", "")):
         with tempfile.TemporaryDirectory() as place:
             (Path(place) / "all.py").touch()
@@ -161,7 +230,7 @@ def links(page):
 
 def named(page):
     """Each file of the repository that a page names exists."""
-    for file in re.findall(r"`((?:bench|crates|examples|guard|include|packaging|tests)/[\w./-]+)`", (TOP / page).read_text()):
+    for file in re.findall(r"`((?:bench|bindings|crates|examples|guard|include|packaging|rust|tests)/[\w./-]+)`", (TOP / page).read_text()):
         compare(f"{page} names {file}", True, "/NAME/" in file or (TOP / file).exists())
 
 
@@ -190,7 +259,7 @@ def paragraphs(name, text):
 def limits_have_names():
     """Limits in the pages, the examples and the headers begin with CAPVET_LIMITS_INIT, and their fields are named."""
     for wrong in ("const capvet_limits limits = {4096, 4096, 64, 0, {0, 0}};", "static capvet_limits LIMITS = { WORDS, 1, 1 };",
-                  "const capvet::Options options{{1 << 16, 1 << 16, 64, 0, {0, 0}}, 1};", "options.messages.limits = {1 << 17, 2};"):
+                  "const capvet::Options options{{1 << 16, 1 << 16, 64, 0, {0, 0}}, 1};", "options.limits = {1 << 17, 2};"):
         compare(f"limits without names are found in {wrong}", True, POSITIONAL.search(wrong) is not None)
     files = [path for top in ("examples", "include", "docs") for path in (TOP / top).rglob("*.*")
              if path.suffix in (".c", ".cpp", ".h", ".md", ".3")]
@@ -240,6 +309,8 @@ def list_of_words():
 
 for name in PAGES:
     shown(name)
+recipes()
+front()
 quoted("docs/proofs.md")
 reported("docs/proofs.md")
 of_the_kit()

@@ -14,11 +14,11 @@ import model
 from amount import cases
 from harness import compare, expect, framed, over_file, under_valgrind
 from made import changed, made_up, shared
-from model import EXCLUSIVE, FIELDS, VET, Limits, Refused, children, followed
+from model import EXCLUSIVE, FIELDS, REPORT, RESERVED, VET, Limits, Refused, children, followed
 from needs import missing
 
 ANSWERS = model.ANSWERS | dict(NO_NODE=21)
-HEAD, EARLIER = struct.Struct("<IQ6Q4I4Q"), struct.Struct("<I6Q4I4Q")
+HEAD, EARLIER = struct.Struct(f"<IQ{REPORT}"), struct.Struct(f"<I{REPORT}")
 MANY = cases(10_000, full=100_000)  # numbers of pointers
 POINTER, ELEMENT = 0, 1
 NAMED = ("OVERLAP", "NullPad", "EmptySegment", "CapabilityPad", "RESERVED", "SEGMENT_MISSING", "PAD_OUTSIDE", "PAD_IS_FAR",
@@ -108,7 +108,7 @@ def opened(data, limits):
     message, frame = model.taken(VET, data, limits, 0)
     if message is None:
         return None, frame
-    extent = dict(length=frame, segments=len(message))
+    extent = dict(length=frame, segments=len(message), words=sum(map(len, message)))
     if len(data) > frame and not limits.flags & model.TRAILING:
         return None, ("TRAILING", dict(detail=len(data) - frame, **extent))
     return message, extent
@@ -206,9 +206,9 @@ def compare_paths(program, many):
     for (data, limits, number, capacity, _), (answer, required, report, steps, other) in zip(many, found):
         expected, written = got(data, limits, number, capacity), (answer, required, report, steps)
         answered, fields = earlier(data, limits, number)
-        compare(lambda: f"the pointer before {number} of {data.hex()} in {limits}", (answered, fields + (0,) * 4), other)
+        compare(lambda: f"the pointer before {number} of {data.hex()} in {limits}", (answered, fields + (0,) * RESERVED), other)
         expect(lambda: f"path {number} {capacity} of {data.hex()} in {limits}",
-               (answer, required, report[:10], steps) == expected and not any(report[10:]), written, expected)
+               (answer, required, report[:len(FIELDS)], steps) == expected and not any(report[len(FIELDS):]), written, expected)
     return found
 
 

@@ -25,9 +25,9 @@ from pathlib import Path
 from typing import NamedTuple
 
 import needs
+from cargo import CARGO, environment
 from harness import TOP, compare, count, ended, expect, run
 from needs import missing
-from plain import CARGO, environment
 
 MESSAGES = 20_000
 # The packages for all machines, and those of one architecture.
@@ -65,15 +65,15 @@ MACHINES = (
 )
 
 
-def fetch(root, scratch):
-    """Unpacks the packages into a folder."""
+def fetch(root, scratch, suite="bookworm", packages=PACKAGES, architectures=ARCHITECTURES):
+    """Unpacks packages of a release of Debian into a folder."""
     (scratch / "lists/partial").mkdir(parents=True)
-    (scratch / "sources.list").write_text(f"deb {needs.mirror()} bookworm main\n")
+    (scratch / "sources.list").write_text(f"deb {needs.mirror()} {suite} main\n")
     options = [f"Dir::State::Lists={scratch}/lists", f"Dir::Cache={scratch}", f"Dir::Etc::SourceList={scratch}/sources.list",
-               "Dir::Etc::SourceParts=-", "APT::Sandbox::User=root", "Acquire::Languages=none"]
-    options += [f"APT::Architectures::={it}" for it in ARCHITECTURES]
+               "Dir::Etc::SourceParts=-", "APT::Sandbox::User=root", "Acquire::Languages=none", "Acquire::Check-Valid-Until=false"]
+    options += [f"APT::Architectures::={it}" for it in architectures]
     apt = ["apt-get", "-q", *(word for it in options for word in ("-o", it))]
-    for words in (["update"], ["download", *PACKAGES]):
+    for words in (["update"], ["download", *packages]):
         said, status = run([*apt, *words], cwd=scratch)
         expect(f"apt-get {words[0]}", status == 0, said)
     for package in scratch.glob("*.deb"):

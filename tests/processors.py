@@ -4,15 +4,16 @@
     processors.py [PROGRAM [ARCHIVE]]
 
 On an old one the program ends with status 127 and one line. The library reads some messages there, and others end the process
-by SIGILL, as docs/install.md says. Without qemu a line says what isn't tested. The last line is 'N passed, M failed', and the
+by SIGILL, as docs/install.md says. The crate for Rust vets each sample there. Without qemu a line says what isn't tested. The last line is 'N passed, M failed', and the
 status is 1 if a case failed.
 """
-import os
+import shutil
 import signal
 import sys
 import tempfile
 from pathlib import Path
 
+import cargo
 from harness import ARCHIVE, PROGRAM, TOP, compare, ended, run
 from needs import missing
 
@@ -57,22 +58,16 @@ def library(folder):
 
 
 def from_rust(folder):
-    """The crate's check of the processor says what that of C says."""
-    (folder / "src").mkdir()
-    (folder / "Cargo.toml").write_text(f"""[package]
-name = "supported"
-version = "0.0.0"
-edition = "2021"
-[dependencies]
-capvet = {{ path = "{TOP / 'bindings/rust'}" }}
-[workspace]
-""")
-    (folder / "src/main.rs").write_text("fn main() { std::process::exit(i32::from(!capvet::cpu_supported())) }\n")
-    environment = {**os.environ, "CAPVET_LIB_DIR": str(ARCHIVE.parent), "CARGO_TARGET_DIR": str(folder / "target")}
-    compare("cargo build", ("", 0), run(["cargo", "build", "--offline", "--quiet"], cwd=folder, env=environment))
-    for processor in OLD + NEW:
-        got = emulated(processor, folder / "target/debug/supported")
-        compare(f"capvet::cpu_supported on {processor}", ("", int(processor in OLD)), got)
+    """The crate vets each sample on an old processor too."""
+    environment = cargo.environment(folder)
+    # (cargo writes a lock file beside a crate)
+    for part in ("rust", "examples"):
+        shutil.copytree(TOP / part, folder / "copy" / part, ignore=shutil.ignore_patterns("target", "Cargo.lock"))
+    compare("cargo build", ("", 0), run(["cargo", "build", *cargo.CARGO], cwd=folder / "copy/examples/rust", env=environment))
+    for processor in OLD:
+        for name, expected in SAMPLES.items():
+            got = emulated(processor, folder / "target/debug/vet", TOP / "examples" / name)
+            compare(f"the example in Rust on {processor}, {name}", (expected, 0), got)
 
 
 def main():
@@ -81,7 +76,7 @@ def main():
         if not missing("the library on old processors", "cc"):
             with tempfile.TemporaryDirectory() as scratch:
                 library(Path(scratch))
-        if not missing("the check of the processor in Rust", "cargo", "rustc"):
+        if not missing("the crate for Rust on old processors", "cargo", "rustc", "crates"):
             with tempfile.TemporaryDirectory() as scratch:
                 from_rust(Path(scratch))
     return ended()

@@ -1,7 +1,7 @@
 #!/usr/bin/env python3
 """Runs the built program as its users do, and compares all that it writes and its exit status.
 
-    program.py [PROGRAM]
+    program.py [PROGRAM] [--full]
 
 A case is one call of `case`. Failures are printed as they come. The last line is 'N passed, M failed', and
 the status is 1 where a case failed. The expected texts were written from docs/output.md, and the numbers of the
@@ -12,6 +12,8 @@ lines are in tables.py, with what the program has to write for them, and the tex
   tests/trees.py reads the trees too. Canonical copies are those of Cap'n Proto's own tool.
 - The deepest tree is dumped with a stack of 1 MiB.
 - Inputs are cut at each byte of a message, and come one, three or seven bytes at a time.
+- Hashes are those of `sha256sum` over the bytes of canonical copies. For messages that are made up, each line is that of
+  tests/model.py too.
 - Each form that `--strict` refuses comes alone and before other faults, with messages near to it.
 - Lists of up to 600 words of each kind are packed and unpacked, beside another packer in Python.
 - Outputs and standard error fail after each number of bytes. Pipes are closed at each byte of a text.
@@ -21,7 +23,9 @@ lines are in tables.py, with what the program has to write for them, and the tex
   small messages. A message of 64 MiB takes its size and 3 MiB, and a 64th of it for `--exclusive`.
 """
 import fcntl
+import hashlib
 import os
+import random
 import resource
 import select
 import signal
@@ -37,17 +41,23 @@ from pathlib import Path
 import demands
 import filtering
 import messages
+import model
 import tables
-from harness import PROGRAM, TOP, compare, ended, framed, outputs
+from amount import cases
+from clap_texts import alike, clap_of, spare
+from harness import PROGRAM, TOP, compare, ended, expect, framed, outputs
 from helps import HELPS
+from made import changed, made_up, shared
+from made import samples as sample_messages
 from packing import packed
 from tables import word
 from trees import dump_text, get_text
 
 MIB = 1 << 20
-# How many MiB a program has resident beside its messages. (Which pages of its files and of the C library these are depends on
-# what the system has read ahead, so a few tens of KiB come and go)
-SPARE = 3
+# How many MiB it has resident beside its messages.
+SPARE = spare(PROGRAM)
+# The clap of the program, which has other texts in a plain build.
+CLAP = clap_of(PROGRAM)
 # Each case that was run: the arguments, the input, and what is expected. Tables share messages, and several rows pack the same one.
 DONE = set()
 
@@ -69,7 +79,7 @@ def case(words, out="", err="", status=0, stdin=b"", stdout=subprocess.PIPE, sho
         name += f", of {stdin[:80].hex()}"
     if stdout != subprocess.PIPE:
         name += ", with an output that fails"
-    compare(name, expected, outputs([PROGRAM, *words], stdin, stdout=stdout))
+    compare(name, *alike(expected, outputs([PROGRAM, *words], stdin, stdout=stdout), CLAP))
 
 
 def shell_case(line, out, status=0):
@@ -86,7 +96,7 @@ def mistake(words, text):
 
 def mistake_beginning(words, beginning):
     """A command line that is wrong, and how what is said of it begins."""
-    out, err, status = outputs([PROGRAM, *words.split()], NULL)
+    _, (out, err, status) = alike((b"", b"", 2), outputs([PROGRAM, *words.split()], NULL), CLAP)
     compare(f"capvet {words}", (b"", beginning.encode(), 2), (out, err[:len(beginning)], status))
 
 
@@ -122,7 +132,19 @@ def segments_text(stream):
     return text
 
 
+def hashes_of(copies):
+    """The lines of `hash` for messages with these canonical copies, each with its table. The digits are those of `sha256sum`."""
+    text, at, number = "", 0, 0
+    while at < len(copies):
+        size = 8 * struct.unpack_from("<I", copies, at + 4)[0]
+        digits, _, _ = outputs(["sha256sum"], copies[at + 8:at + 8 + size])
+        text += f"message {number}: sha256 {digits.decode().split()[0]}\n"
+        at, number = at + 8 + size, number + 1
+    return text
+
+
 NULL = framed("0000000000000000")
+NULL_HASH = hashes_of(NULL)
 NULL_ACCEPTED = "message 0: accepted charge 0 depth 0 pointers 1 caps 0\n"
 NULL_DUMP = NULL_ACCEPTED + "root null\n"
 NULL_FOUND = "message 0: found\nnode null\n"
@@ -168,9 +190,9 @@ COPIES = {
     "telemetry.bin": "telemetry.bin",
     "stream-of-four.bin": "stream-of-four.bin",
 }
-COMMANDS = ("segments", "vet", "explain", "filter", "dump", "get", "check", "canon", "pack", "unpack")
+COMMANDS = ("segments", "vet", "explain", "filter", "dump", "get", "check", "canon", "hash", "pack", "unpack")
 # Those that read messages, with what each of them needs besides its input; and all of them.
-READERS = ("segments", "vet", "explain", "filter", "dump", "get /", "check", "canon")
+READERS = ("segments", "vet", "explain", "filter", "dump", "get /", "check", "canon", "hash")
 RUNS = (*READERS, "pack", "unpack")
 # Those that write one line for a message that can't be read. (tests/explain.py has the lines of `explain`)
 BRIEF = (*(it for it in READERS if it != "explain"), "vet --exclusive")
@@ -192,11 +214,15 @@ def contents(stream):
 
 
 def canonical_copies():
-    """The copies of each sample's messages, plain and packed, against those of another program; each is canonical."""
+    """The copies of each sample's messages, plain and packed, against those of another program; each is canonical. And the hash of
+    each message, which is that of its copy."""
     for name, copies in COPIES.items():
         expected = (sample(f"canonical/{copies}"), b"", 0)
         text, err, status = outputs([PROGRAM, "canon", f"examples/{name}"])
         compare(f"capvet canon examples/{name}", expected, (contents(text), err, status))
+        case(f"hash examples/{name}", hashes_of(text))
+        case("hash", hashes_of(text), stdin=text)
+        case("hash --strict --unamplified --packed", hashes_of(text), stdin=packed(sample(name)))
         case("canon", text, stdin=text)
         shell_case(f"capvet pack examples/{name} | capvet canon --packed", text)
         shell_case(f"capvet canon examples/{name} | capvet check",
@@ -316,6 +342,7 @@ for command, text in {
 live_pipe("check", CHECKS["contacts.bin"].encode(), status=1)
 copy = sample("canonical/contacts.bin")
 live_pipe("canon", struct.pack("<II", 0, len(copy) // 8) + copy)
+live_pipe("hash", hashes_of(struct.pack("<II", 0, len(copy) // 8) + copy).encode())
 live_pipe("filter", contacts)
 resident("vet", "a table that claims 64 MiB and has nothing after it", [word("0000000000008000")], [], 4 << 10)
 COPIES = (64 << 20) // len(contacts)
@@ -347,13 +374,18 @@ def large_segments(words):
 
 def large_messages():
     """Messages of 64 MiB, which the default limits allow, and of 96 MiB. The memory is the message and SPARE MiB. With
-    `--exclusive` the marks come to it, a 64th of the message, and in `canon` the copy, which equals the message."""
+    `--exclusive` the marks come to it, a 64th of the message, and in `canon` the copy, which equals the message. `hash` makes a
+    copy only of a message that isn't canonical, as one with a zero word at the end."""
     stream, accepted = large_message(64 << 17)
     resident("vet", "a message of 64 MiB", stream, accepted, (64 + SPARE) << 10)
     resident("vet --exclusive", "a message of 64 MiB", stream, accepted, (64 + 1 + SPARE) << 10)
     resident("vet --strict --unamplified", "a message of 64 MiB", stream, accepted, (64 + SPARE) << 10)
     resident("filter", "a message of 64 MiB", stream, stream, (64 + SPARE) << 10)
     resident("canon", "a message of 64 MiB", stream, stream, (64 + 64 + SPARE) << 10)
+    resident("hash", "a message of 64 MiB", stream, [hashes_of(b"".join(stream)).encode()], (64 + SPARE) << 10)
+    copy, _ = large_message((64 << 17) - 1)
+    resident("hash", "a message of 64 MiB with a zero word at the end", [struct.pack("<II", 0, 64 << 17), copy[0][8:], *copy[1:], bytes(8)],
+             [hashes_of(b"".join(copy)).encode()], (64 + 64 + SPARE) << 10)
     words = 96 << 17
     limits = f"--size {words} --words {words}"
     for name, (stream, accepted) in {"a message": large_message(words), "512 segments": large_segments(words)}.items():
@@ -378,6 +410,9 @@ case("vet --size 391 examples/contacts.bin", err="capvet: message 0: TooLarge 39
 case("check", "message 0: canonical\n" + CYCLE_REFUSED.replace("0", "1", 1), status=1, stdin=NULL + CYCLE)
 case("canon", NULL, "capvet: message 1: refused DepthLimit at 0:0\n", 1, NULL + CYCLE + NULL)
 case("canon", NULL, "capvet: message 1: HasCapability at 0:0\n", 1, NULL + CAPABILITY)
+case("hash", NULL_HASH + CYCLE_REFUSED.replace("0", "1", 1) + "message 2: no canonical form, capability at 0:0\n" + NULL_HASH.replace("0", "3", 1),
+     status=1, stdin=NULL + CYCLE + CAPABILITY + NULL)
+case("hash", NULL_HASH, "capvet: message 1: Truncated at byte 23\n", 1, NULL + NULL[:7])
 case("canon --depth 3 examples/contacts.bin", err="capvet: message 0: refused DepthLimit at 0:7\n", status=1)
 case("canon", NULL, "capvet: message 1: Truncated at byte 23\n", 1, NULL + NULL[:7])
 case("vet", NULL_ACCEPTED, "capvet: message 1: Truncated at byte 23\n", 1, NULL + NULL[:7])
@@ -456,6 +491,8 @@ for stream, copy, is_canonical in tables.COPIES:
     rows([
         ("canon", stream, word(copy), "", 0),
         ("canon", copy, word(copy), "", 0),
+        ("hash", stream, hashes_of(word(copy)), "", 0),
+        ("hash", copy, hashes_of(word(copy)), "", 0),
         ("check", stream, said, "", 0 if is_canonical else 1),
         ("check", copy, "message 0: canonical\n", "", 0),
     ], also_packed=True)
@@ -470,15 +507,67 @@ def known_messages():
         for given in message, copy:
             said = "canonical" if given == copy else "not canonical"
             case("canon --words 268435456 --depth 256", copy, stdin=given)
+            case("hash --words 268435456 --depth 256", hashes_of(copy), stdin=given)
             case("check --words 268435456 --depth 256", f"message 0: {said}\n", status=int(given != copy), stdin=given)
     for digits, place in messages.CAPABILITIES:
         case("canon", err=f"capvet: message 0: HasCapability at {place}\n", status=1, stdin=framed(digits))
+        case("hash", f"message 0: no canonical form, capability at {place}\n", status=1, stdin=framed(digits))
     for digits, nodes in messages.NODES:
         for path, text in nodes.items():
             case(f"get {path}", f"message 0: found\nnode {text}" if text else "message 0: none\n", stdin=framed(digits))
 
 
 known_messages()
+
+
+def hash_line(frame):
+    """What `hash` has to write of a framed message after its number, by tests/model.py. The bytes that it hashes, or None."""
+    limits = model.Limits()
+    message, _ = model.unframed(frame, limits)
+    try:
+        tree = model.vetted(message, limits.charge, limits.depth)
+    except model.Refused as refused:
+        answer, segment, at, pointers = refused.args
+        return f"refused {answer.title().replace('_', '')} at {segment}:{at} pointers {pointers}", None
+    if tree.capabilities:
+        return "no canonical form, capability at {}:{}".format(*tree.first), None
+    words = model.canonical(message)
+    copy = struct.pack(f"<{len(words)}Q", *words)
+    return f"sha256 {hashlib.sha256(copy).hexdigest()}", copy
+
+
+def sums_of(copies):
+    """The digits of `sha256sum` for the words of copies that `canon` wrote, each with its table."""
+    with tempfile.TemporaryDirectory() as folder:
+        names, at = [], 0
+        while at < len(copies):
+            end = at + 8 + 8 * struct.unpack_from("<I", copies, at + 4)[0]
+            names.append(str(len(names)))
+            (Path(folder) / names[-1]).write_bytes(copies[at + 8:end])
+            at = end
+        return [line.split()[0] for line in outputs(["sha256sum", *names], cwd=folder)[0].decode().splitlines()]
+
+
+def made_hashes():
+    """Messages that are made up, or that are changed samples. The line of `hash` is that of tests/model.py. Where it has a hash, that is
+    what `sha256sum` prints of the bytes that `canon` writes, without their table."""
+    chance, known = random.Random("hashes"), [it for it in sample_messages() if len(it) < 6000]
+    count = cases(1000, full=20_000)  # messages that are hashed
+    made = [chance.choice((made_up, shared, lambda it: changed(it.choice(known), it)))(chance) for _ in range(count)]
+    expected, copies = zip(*map(hash_line, made))
+    lines = outputs([PROGRAM, "hash"], b"".join(made))[0].decode().splitlines()
+    compare("capvet hash of made messages, and how many lines", count, len(lines))
+    for number, (message, text, line) in enumerate(zip(made, expected, lines)):
+        compare(f"capvet hash of a made message, {message[:80].hex()}", f"message {number}: {text}", line)
+    with_copy = [number for number, copy in enumerate(copies) if copy is not None]
+    written = outputs([PROGRAM, "canon"], b"".join(made[number] for number in with_copy))[0]
+    compare("capvet canon of the messages that have a hash", b"".join(framed(copies[number]) for number in with_copy), written)
+    digits = [line.split()[-1] for line, copy in zip(lines, copies) if copy is not None]
+    compare("capvet hash, and sha256sum of what canon writes", sums_of(written), digits)
+    expect("a quarter of the made messages have a hash", 4 * len(with_copy) >= count, len(with_copy))
+
+
+made_hashes()
 for plain, text in tables.SPELLINGS:
     rows([("pack", plain, word(text), "", 0), ("unpack", text, word(plain), "", 0)])
 for stream, line in tables.TOO_LARGE:
@@ -505,10 +594,11 @@ def limits():
               ("get /", stream, f"message 0: found\nnode {head}\n", "", 0),
               ("check", stream, "message 0: canonical\n", "", 0),
               ("filter --allow-amplified", stream, word(stream), "", 0),
+              ("hash", stream, hashes_of(word(stream)), "", 0),
               ("canon", stream, word(stream), "", 0)], also_packed=True)
     for stream, said, pointers in tables.PAST_DEFAULTS:
         text = f"message 0: {said} pointers {pointers}\n"
-        rows([*((command, stream, text, "", 1) for command in ("vet", "vet --exclusive", "dump", "get /", "check")),
+        rows([*((command, stream, text, "", 1) for command in ("vet", "vet --exclusive", "dump", "get /", "check", "hash")),
               ("filter --allow-amplified", stream, "", text, 1),
               ("canon", stream, "", f"capvet: message 0: {said}\n", 1)], also_packed=True)
 
@@ -722,6 +812,7 @@ SHARED_TEXTS = {
     "get /p1": get_text(SHARED, "/p1"),
     "check": "message 0: not canonical\n",
     "canon": framed("0000000000000200 0400000001000000 0400000001000000 0700000000000000 0700000000000000"),
+    "hash": hashes_of(framed("0000000000000200 0400000001000000 0400000001000000 0700000000000000 0700000000000000")),
     "filter": SHARED,
 }
 
@@ -820,7 +911,7 @@ def needs_memory(command, stream, *expected):
 
 def expects():
     """A small message, and then one of 1 MiB, for which the memory is too little at first. In `canon` its copy is as
-    large."""
+    large. `hash` makes none, since the message is canonical."""
     words = 1 << 17
     large = struct.pack("<IIII", 0, 1 + words, 1, 8 * words << 3 | 2) + bytes(8 * words)
     nothing = ("", "capvet: out of memory\n", 3)
@@ -832,6 +923,7 @@ def expects():
         "get /": NULL_FOUND,
         "check": "message 0: canonical\n",
         "canon": NULL, "filter": NULL,
+        "hash": NULL_HASH,
     }
     seconds = {
         "vet": accepted,
@@ -840,6 +932,7 @@ def expects():
         "get /": f"message 1: found\nnode list 2 {8 * words}\n" + "".join(f"  w{i} {'0' * 16}\n" for i in range(words)),
         "check": "message 1: canonical\n",
         "canon": large, "filter": large,
+        "hash": hashes_of(NULL + large).removeprefix(NULL_HASH),
     }
     for command, first in firsts.items():
         second = (first, "capvet: message 1: Memory\n", 3)
@@ -859,9 +952,18 @@ for command, text in SHARED_TEXTS.items():
 expects()
 
 # ------------------------------------------------------------------ command lines
-case([b"vet", b"\xff"], err="capvet: argument 2 is not UTF-8\n", status=2, stdin=NULL)
-case([b"get", b"/", b"examples/\xffshared.bin", b"\xfe"], err="capvet: argument 3 is not UTF-8\n", status=2, stdin=NULL)
-case([b"vet", 100_000 * b"a" + b"\xff"], err="capvet: argument 2 is not UTF-8\n", status=2, stdin=NULL)
+case([b"vet", b"\xff"], err="capvet: argument 2 is not UTF-8; to read a file of such a name, use < FILE\n", status=2, stdin=NULL)
+case([b"get", b"/", b"examples/\xffshared.bin", b"\xfe"], err="capvet: argument 3 is not UTF-8; to read a file of such a name, use < FILE\n", status=2, stdin=NULL)
+case([b"vet", 100_000 * b"a" + b"\xff"], err="capvet: argument 2 is not UTF-8; to read a file of such a name, use < FILE\n", status=2, stdin=NULL)
+# Sizes with units: `explain` shows the limit of a message that is too large.
+for size, number in tables.SIZES:
+    for option in ((f"--size={size}",), ("--size", size), ("--message-words", size), (f"--message-words={size}",)):
+        _, err, _ = outputs([PROGRAM, "explain", *option], struct.pack("<II", 0, 0xffffffff))
+        compare(f"{' '.join(option)} is {number} words", [f"  words 4294967295, limit {number}"],
+                [line for line in err.decode().splitlines() if ", limit " in line])
+    for option in ("--words", "--charge"):
+        compare(f"{option} {size} is {number} words", outputs([PROGRAM, "vet", option, str(number), "examples/contacts.bin"]),
+                outputs([PROGRAM, "vet", option, size, "examples/contacts.bin"]))
 for words, text in tables.MISTAKES:
     mistake(words, text)
 for words, beginning in tables.MISTAKE_BEGINNINGS:

@@ -1,19 +1,22 @@
 #!/usr/bin/env python3
 """Proves the crates, and leaves the proved program and the proved archive in build/.
 
-    prove.py                     each library and the program; the tests in Rattle run, the layout and HANDLES are checked
+    prove.py                     each library and the program; the tests in Rattle run, and HANDLES is checked
     prove.py --code              only the crates that the program and the archive are built from
+    prove.py --tests             nothing: the tests in Rattle run, where `rt` is there
     prove.py --edits [--anew]    every crate and its tests, and the prover has to refuse each must-fail edit
 
-`rt` keeps in crates/*/out what it has proved, and proves only what has changed since. Where nothing has changed since build/
-was made, `rt` isn't run at all. The tests in Rattle run beside the proofs, with checks and without a proof that they are safe.
+The layout of all files is checked first. `rt` keeps in crates/*/out what it has proved, and proves only what has changed since.
+Where nothing has changed since build/ was made, `rt` isn't run at all. The tests in Rattle run beside the proofs, with checks and
+without a proof that they are safe.
 
 With --edits `rt ci` does the work on a copy of the tree, and proves the tests too. Then tests/edits.py tries the edits over what
 was proved, since `rt ci` doesn't look at why an edit is refused. Both take from earlier runs on this machine what has read the
 same, and with --anew nothing. While the copy is there it also builds for the other machines whose tools are there
 (packaging/targets.py). Without --edits the scripts that need these builds make them.
 
-The last line of the output is 'N passed, M failed'. The status is 1 where something failed, and then build/ stays as it was.
+The last line of the output is 'N passed, M failed'. Before it a line FAILED has each crate that isn't proved, or each edit that is bad,
+with the reason. The status is 1 where something failed, and then build/ stays as it was.
 """
 import fcntl
 import hashlib
@@ -32,6 +35,8 @@ TOP = Path(__file__).resolve().parent.parent
 sys.path.insert(0, str(TOP / "packaging"))
 import targets  # noqa: E402 (it is in the folder that the line above names)
 
+import needs  # noqa: E402
+
 KIT = Path(shutil.which("rt") or "/").resolve().parent.parent
 BUILT = TOP / "build"
 PROGRAM, ARCHIVE = Path("crates/capvet/out/capvet"), Path("crates/capvet_c/out/libcapvet_c.a")
@@ -39,6 +44,8 @@ BUILDS = (PROGRAM.parts[1], ARCHIVE.parts[1])
 CORES = len(os.sched_getaffinity(0))
 EACH = 600
 HANDLES = "Handles allowed: none.\n"
+# What failed, a line each, and the lines of edits.py that are about a bad edit, or about a crate that isn't proved without one.
+FAILURES, BAD = [], re.compile(r"\S+: (?:BAD EDIT|not proved without an edit): ")
 # What is called of the C library for a thread, for a socket, or for another program.
 BEYOND = re.compile(r"pthread_create|thrd_create|socket|socketpair|bind|connect|listen|accept4?|getaddrinfo|epoll_\w+|eventfd|"
                     r"send|sendto|sendmsg|recv|recvfrom|recvmsg|posix_spawnp?|v?fork|clone3?|exec[vl]\w*|fexecve|system|popen")
@@ -146,6 +153,8 @@ def prove(name, rt, beside):
         words = ["all", "test"] if (folder / "src/main.rt").exists() else ["lib"]
         is_proved = rt(folder, *words, "--jobs", f"{max(CORES // 2, 1) if beside else CORES}", beside=beside)
     print(f"{name} took {time.monotonic() - begin:.0f} s")
+    if not is_proved:
+        FAILURES.append(f"{name} is not proved")
     return is_proved
 
 
@@ -171,11 +180,14 @@ def prove_crates(names, rt):
 
 def run_tests(name):
     """Runs the tests of a crate, and proves nothing. Whether they pass, and there are some."""
-    ran = subprocess.run(["nice", "rt", "try", "--test", "--seconds", "600"], cwd=TOP / "crates" / name, stdin=subprocess.DEVNULL,
+    # (only a hang takes an hour, also with less priority on a busy machine)
+    ran = subprocess.run(["nice", "rt", "try", "--test", "--seconds", "3600"], cwd=TOP / "crates" / name, stdin=subprocess.DEVNULL,
                          stdout=subprocess.PIPE, stderr=subprocess.STDOUT, text=True, errors="replace")
     counted = re.search(r"(?m)^tests: (\d+)$", ran.stdout)
     passed = ran.returncode == 0 and counted is not None and int(counted[1]) > 0
     print(f"{name}: {counted[1]} tests" if passed else f"{ran.stdout}{name}: its tests failed with status {ran.returncode}")
+    if not passed:
+        FAILURES.append(f"{name}: its tests failed with status {ran.returncode}")
     return passed
 
 
@@ -196,6 +208,14 @@ def prove_each(names, tests, rt=rt):
     return all(it.result() for it in running)
 
 
+def run_all_tests():
+    """Runs the tests in Rattle. Returns how many crates passed, or None where one failed."""
+    if needs.missing("the tests in Rattle", "rt"):
+        return 0
+    names = [name for name in crates() if has_tests(name)]
+    return len(names) if all([run_tests(name) for name in names]) else None
+
+
 def prove_code():
     """Proves the program, the archive and all that they are built from. Returns what passed: these two."""
     return 2 if prove_each(below(BUILDS), ()) and holds_handles() else None
@@ -206,7 +226,7 @@ def prove_all():
     something failed."""
     tests = [name for name in crates() if has_tests(name)]
     others = [name for name in crates() if name not in tests]
-    return len(crates()) if has_layout(crates()) and prove_each(others, tests) and holds_handles() else None
+    return len(crates()) if prove_each(others, tests) and holds_handles() else None
 
 
 def take(root, files=(PROGRAM, ARCHIVE)):
@@ -226,13 +246,18 @@ def copy(root):
 
 
 def counted(words, folder):
-    """Runs a command, shows its output, and returns how many cases passed, or None where one failed."""
-    passed = None
+    """Runs a command, shows its output, and returns how many cases passed, or None where one failed. The lines about bad edits are
+    kept as failures."""
+    passed, known = None, len(FAILURES)
     with subprocess.Popen(words, cwd=folder, stdout=subprocess.PIPE, text=True, errors="replace") as ran:
         for line in ran.stdout:
             print(line, end="", flush=True)
             found = re.fullmatch(r"(\d+) passed, 0 failed\n", line)
             passed = int(found[1]) if found else passed
+            if BAD.match(line):
+                FAILURES.append(line.rstrip())
+    if ran.returncode and len(FAILURES) == known:
+        FAILURES.append(f"{' '.join(map(str, words))} ended with status {ran.returncode}")
     return None if ran.returncode else passed
 
 
@@ -277,27 +302,32 @@ def kept():
     return int(passed) if found == checksum() else None
 
 
+def ended(passed):
+    """Names what failed once more, and prints how many cases passed, or that one failed for None; the status."""
+    print("".join(f"FAILED: {line}\n" for line in FAILURES), end="")
+    print("0 passed, 1 failed" if passed is None else f"{passed} passed, 0 failed")
+    return passed is None
+
+
 def main(words):
     sys.stdout.reconfigure(line_buffering=True)
     ways = {(): prove_all, ("--code",): prove_code, ("--edits",): lambda: prove_and_edit([]),
             ("--edits", "--anew"): lambda: prove_and_edit(["--anew"])}
-    if tuple(words) not in ways:
+    if words != ["--tests"] and tuple(words) not in ways:
         sys.exit(__doc__)
+    if words == ["--tests"]:
+        return ended(run_all_tests())
     passed = None if "--edits" in words else kept()
     if passed is not None:
         print("nothing has changed since build/ was proved")
     else:
         (BUILT / "proved").unlink(missing_ok=True)
-        passed = ways[tuple(words)]()
+        passed = ways[tuple(words)]() if has_layout(crates()) else None
         if passed is not None and "--edits" not in words:
             take(TOP)
-    if passed is None:
-        print("0 passed, 1 failed")
-        return 1
-    if words != ["--code"]:
+    if passed is not None and words != ["--code"]:
         (BUILT / "proved").write_text(f"{checksum()} {passed}\n")
-    print(f"{passed} passed, 0 failed")
-    return 0
+    return ended(passed)
 
 
 if __name__ == "__main__":

@@ -5,14 +5,15 @@
 
 Its calls return what PROGRAM prints: for the samples, for one that is cut at each byte, for changed messages, and for those that
 hypothesis makes. Streams arrive in pieces, plain and packed, in a file and in a feed. A socket sends a message and a half, and
-the first one comes before the rest is sent. After timeouts and failed reads no byte is lost. `nodes` yields what `node` returns
-for each path, `tree` prints the lines of `capvet dump`, and `explain` returns those of `capvet explain` for 2,000 messages.
+the first one comes before the rest is sent. After timeouts and failed reads no byte is lost. `peek_range` yields what `peek`
+returns for each path, `tree` prints the lines of `capvet dump`, and `explain` returns those of `capvet explain` for 2,000 messages.
+The getters of a vetted message return what `peek` does, `vet_all` returns what `messages` yields, and nothing but vetting makes a message.
 
 The rows and the summary of `python -m capvet vet` are those of PROGRAM, by one process and by three. An interrupt ends it within
 a second. If its processes are killed, the file that they were at has its row. The page of `map` shows the line of PROGRAM in a
 headless Chromium without a network. Other threads run during a call, and many calls leave less than 4 MiB more resident.
 
-`mypy --strict` finds no fault in the package, in the programs of the pages and in the examples, and it finds seven wrong calls.
+`mypy --strict` finds no fault in the package, in the programs of the pages and in the examples, and it finds eleven wrong lines.
 The commands and programs of docs/python.md run as the page shows. On an emulated processor without x86-64-v2 `import capvet`
 raises ImportError.
 
@@ -33,7 +34,7 @@ from pathlib import Path
 
 import needs
 from amount import IS_FULL, IS_IDLE, cases
-from harness import ARCHIVE, PROGRAM, TOP, compare, count, ended, run
+from harness import ARCHIVE, PROGRAM, TOP, compare, count, ended, instructions, run
 from install import make
 from needs import MODULES, missing, python_with
 
@@ -73,7 +74,7 @@ def on_processors(python, folder):
     """The package is imported on a processor that has what the library needs, and on no other."""
     if missing("the package for Python on older processors", "qemu-x86_64"):
         return
-    script = "import capvet; print(capvet.vet(bytes([0, 0, 0, 0, 1] + [0] * 11)).pointers)"
+    script = "import capvet; print(capvet.vet(bytes([0, 0, 0, 0, 1] + [0] * 11)).report.pointers)"
     for processor, status, line in (("Nehalem", 0, "1\n"), ("Conroe", 1, "ImportError: this processor lacks a feature of x86-64-v2")):
         said = run(["qemu-x86_64", "-cpu", processor, python, "-c", script], cwd=folder)
         compare(f"import capvet on {processor}", (True, status), (line in said[0], said[1]))
@@ -102,14 +103,20 @@ def tested(python, folder):
 
 # What a call of the package may not get, and what a message is known to have.
 WRONG = """import capvet, gzip, socket
-reveal_type([it.report for it in capvet.messages(b"") if it.refusal is None])
-reveal_type([it.data for it in capvet.read_messages(gzip.open("")) if not it.refusal])
-reveal_type([it.refusal for it in capvet.read_messages(socket.socket().makefile("rb", buffering=0)) if it.data is None])
+reveal_type([it.report for it in capvet.messages(b"") if isinstance(it, capvet.Message)])
+reveal_type([it.unvetted for it in capvet.read_messages(gzip.open("")) if not isinstance(it, capvet.Message)])
+reveal_type([it.required for it in [capvet.FrameError()]])
 capvet.vet("text")
 capvet.vet(None)
 capvet.read_messages("name")
 capvet.MessageFeed().feed("text")
-[it.report.charge for it in capvet.messages(b"")]
+[it.data for it in capvet.messages(b"")]
+[it for it in capvet.messages(b"") if isinstance(it, capvet.Refusal) and it.reason == "DepthLimits"]
+[it.unvetted for it in capvet.vet_all(b"") if isinstance(it, capvet.Message)]
+capvet.vet(b"").data = memoryview(b"")
+capvet.vet(b"").first_difference().reason
+capvet.Limits(1, 2, 3)
+capvet.read_messages(socket.socket())
 """
 
 
@@ -123,7 +130,7 @@ def typed(python, folder):
         blocks = re.findall(r"^```python\n(.*?)^```$", (TOP / page).read_text(), re.M | re.S)
         for number, block in enumerate(blocks):
             name = re.sub(r"\W", "_", page) + f"_{number}.py"
-            (programs / name).write_text("message = b''\n" * ("vet(message)" in block and "message =" not in block) + block)
+            (programs / name).write_text("data = b''\n" * ("vet(data)" in block and "data" not in block.partition("vet(data)")[0]) + block)
     compare("the pages have programs", True, len(list(programs.iterdir())) >= 6)
     # (Dask would be looked through for half a minute, and has few types)
     (folder / "mypy.ini").write_text("[mypy]\n[mypy-distributed.*,fsspec.*]\nfollow_imports = skip\n")
@@ -138,17 +145,9 @@ def typed(python, folder):
     text, status = run([*command, "wrong.py"], cwd=folder)
     found = re.findall(r"^wrong.py:(\d+): (?:error|note): (?:Revealed type is \"(.*)\"|.*)$", text, re.M)
     kinds = {2: "builtins.list[capvet.reports.Report]", 3: "builtins.list[builtins.memoryview]",
-             4: "builtins.list[capvet.errors.Refusal]"}
-    expected = {(str(number), kinds.get(number, "")) for number in range(2, 10)}
+             4: "builtins.list[Union[builtins.int, None]]"}
+    expected = {(str(number), kinds.get(number, "")) for number in range(2, 2 + WRONG.count("\n") - 1)}
     compare("mypy of what is wrong", (1, expected), (status, set(found)))
-
-
-def instructions(command):
-    """How many instructions a command takes, by valgrind."""
-    ran = run(["valgrind", "--tool=callgrind", "--callgrind-out-file=/dev/null", *command])
-    compare(f"{command[0].name} under valgrind", 0, ran[1])
-    found = re.search(r"Collected : (\d+)", ran[0])
-    return int(found[1]) if found else 0
 
 
 def cost_of_a_call(python, folder):
@@ -192,7 +191,7 @@ def from_sources(python, folder, prefix):
         expected = ("", 0) if line is None else (line, 1)
         compare(f"pip install {name}", expected, (text if line is None else line if line in text else text, status))
         if line is None and status == 0:
-            said = run([python, "-c", "import capvet; print(capvet.vet(bytes([0, 0, 0, 0, 1] + [0] * 11)).pointers)"], cwd=folder)
+            said = run([python, "-c", "import capvet; print(capvet.vet(bytes([0, 0, 0, 0, 1] + [0] * 11)).report.pointers)"], cwd=folder)
             compare(f"the package {name}", ("1\n", 0), said)
 
 
@@ -253,6 +252,24 @@ def described(folder, archives):
         compare("twine check", (0, len(archives)), (status, text.count("PASSED")))
 
 
+# A stand-in for pycapnp with the arguments of its from_bytes(). It counts the people of a Book.
+CAPNP = """import capvet
+from contextlib import contextmanager
+from types import SimpleNamespace
+
+class Book:
+    @staticmethod
+    @contextmanager
+    def from_bytes(buf, traversal_limit_in_words=None, nesting_limit=None, builder=False):
+        assert traversal_limit_in_words >= 8 << 20 and nesting_limit >= 64
+        yield SimpleNamespace(people=[None] * capvet.peek(buf, "/p0").count)
+
+def load(name):
+    open(name).close()
+    return SimpleNamespace(Book=Book)
+"""
+
+
 def shown(python, folder):
     """The commands and programs of docs/python.md, word for word, in a copy of what they need. `make` builds nothing."""
     page = (TOP / "docs/python.md").read_text()
@@ -279,8 +296,12 @@ def shown(python, folder):
             print(text)
     printed = dict(re.findall(r"^```python\n((?:(?!```).*\n)*)```\n\nIt prints:\n\n```\n((?:(?!```).*\n)*)```$", page, re.M))
     compare("docs/python.md has a program with its output", True, len(printed) > 0)
+    (folder / "stand-in").mkdir()
+    (folder / "stand-in/capnp.py").write_text(CAPNP)
+    compare("docs/python.md begins with a service", True, "capvet.vet(data).read_with(" in next(it for _, it in blocks))
     for number, block in enumerate(text for language, text in blocks if language == "python"):
-        text, status = run([place / "venv/bin/python", "-c", block], cwd=place)
+        text, status = run([place / "venv/bin/python", "-c", block], cwd=place,
+                           env={**os.environ, "PYTHONPATH": str(folder / "stand-in")})
         compare(f"docs/python.md, its program {number}", 0, status)
         if block in printed:
             compare(f"docs/python.md, its program {number} prints", printed[block], text)
@@ -289,7 +310,7 @@ def shown(python, folder):
     variables = {**os.environ, "PATH": f"{place / 'venv/bin'}:{os.environ['PATH']}"}
     for command, expected in (it for language, text in blocks if language == "console"
                             for it in re.findall(r"^\$ (.*)\n((?:(?!\$ ).*\n)*)", text, re.M)):
-        needed = ["jq"] * ("jq" in command) + ["esbuild", "wasm-opt"] * (" map " in command)
+        needed = ["jq"] * ("jq" in command) + ["esbuild", "wasm-opt", "proved-crates"] * (" map " in command)
         if missing(f"docs/python.md: {command}", *needed):
             continue
         compare(f"docs/python.md: {command}", expected, run(["bash", "-c", command], cwd=place, env=variables)[0])

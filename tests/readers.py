@@ -1,11 +1,12 @@
 #!/usr/bin/env python3
 """Reads messages by Cap'n Proto's own C++ library and by the Rust crate `capnp`, beside the built program.
 
-    readers.py PROGRAM [--full]
+    readers.py PROGRAM [--full] [--long]
 
 A message is strict if it is accepted, has at most 511 segments, and none of its pointers is of three constructs that a
-reader fails on. Messages of fixed seeds are changed: 20,000, or 200,000 with --full. Each strict one is read under the limits that the guide gives for a reader. No reading may fail. The readers have to find the bytes, the
-pointers and the capabilities that tests/model.py finds, and to make the canonical copy that the program makes.
+reader fails on. Messages of fixed seeds are changed: 20,000, or 200,000 with --full. With --long they go on until 1,000,000 strict
+ones were read. Each strict one is read under the limits that the guide gives for a reader. No reading may fail. The readers have to
+find the bytes, the pointers and the capabilities that tests/model.py finds, and to make the canonical copy that the program makes.
 
 Messages of the C++ library's own encoder, and those under examples/, have to be strict and unamplified. What is not strict
 has to be refused by the option --strict, with the reason, the place and the count of the model. The option --unamplified has
@@ -13,20 +14,23 @@ to do what the word limit of each message by itself does.
 
 The messages under examples/readers/ are read as libcapnp reads them, by the types that a schema may have (tests/readers/samples.cpp,
 and `capnp decode`). So are a list of each encoding, and a root that is a list. `isCanonical` of libcapnp accepts several segments
-if the second is empty, and `check` refuses them.
+if the second is empty, and `check` refuses them. Within its default limits libcapnp reads six million words of the 44 that README.md
+speaks of. It counts them again when they are read again, and then throws.
 
 What isn't installed is said in a line of its own. The last line is 'N passed, M failed', and the status is 1 if a case failed.
 """
+import itertools
 import random
-import shutil
+import re
 import struct
 import sys
 import tempfile
 from collections import Counter, defaultdict
 from dataclasses import dataclass
-from itertools import zip_longest
 from pathlib import Path
 
+import amount
+import cargo
 import model
 import trees
 from amount import cases
@@ -37,6 +41,7 @@ from needs import missing
 
 HERE = TOP / "tests/readers"
 MANY = cases(20_000, full=200_000)  # changed messages
+STRICT = 1_000_000 if amount.has("--long") else 0  # the fewest strict ones among them
 BATCH = 50_000
 CONTENTS = 30
 # The limit of the charge, which a reader goes through word by word.
@@ -57,8 +62,8 @@ SAMPLES = {
     "people-without-names": ("p0", {"structs": "(7 '') (9 '')", "numbers": "7 9"}, "(people = [(id = 7, job ="),
     "tags-as-structs": ("p2", {"structs": "(0 'A') (0 'B')", "texts": "'A' 'B'"}, """(tags = ["A", "B"], revision = 0)\n"""),
 }
-# What libcapnp reads at pointer 0 of the root, of a struct and of a list of two elements of each encoding: the words of the
-# pointer and of what it leads to, and the readings. docs/format.md has the same as a table.
+# Pointers at 0 of the root: to a struct, and to a list of two elements of each encoding. They have the words of the pointer and of
+# its target, and what libcapnp reads there. docs/format.md has the same as a table.
 TEXTS = "0500000012000000 0500000012000000 4100000000000000 4200000000000000"
 OBJECTS = {
     "a struct": ("0000000001000000 0700000000000000", {"struct": "(7 '')"}),
@@ -209,11 +214,11 @@ def build(folder):
             no_faults(f"{file}.cpp", run(command)[0].splitlines())
             programs[name] = folder / file
     if not missing("strict messages by the crate capnp", "cargo", "rustc", "crate-capnp"):
-        shutil.copytree(HERE / "rust", folder / "rust")
-        command = ["cargo", "build", "--quiet", "--release", "--offline", "--target-dir", "target"]
-        text, status = run(command, cwd=folder / "rust")
+        cargo.copied(folder / "copy", "tests/readers")
+        command = ["cargo", "build", "--quiet", "--release", "--offline"]
+        text, status = run(command, cwd=folder / "copy/tests/readers/rust", env=cargo.environment(folder))
         no_faults("cargo build of the reader", text.splitlines() if status else [])
-        programs["Rust"] = folder / "rust/target/release/read"
+        programs["Rust"] = folder / "target/release/read"
     return programs
 
 
@@ -281,7 +286,7 @@ class Tests:
         both = [strict if " accepted " in line else line for strict, line in zip(verdicts, bounded)]
         for options, lines in (("--strict", verdicts), ("--unamplified", bounded), ("--strict --unamplified", both)):
             got = self.vet(stream, *options.split())
-            no_faults(f"{name}: verdicts by {options}", [pair for pair in zip_longest(got, lines) if pair[0] != pair[1]])
+            no_faults(f"{name}: verdicts by {options}", [pair for pair in itertools.zip_longest(got, lines) if pair[0] != pair[1]])
         return accepted
 
     def bounded(self, messages):
@@ -345,6 +350,17 @@ class Tests:
                        [f"p0 {kind} {readings.get(kind, 'throws')}" for kind in TYPES])
         self.reads("a list as the root", framed("0100000007000000 0000000000000000"), ["root throws"])
         self.canonical_messages((folder / "empty-segment.bin").read_bytes())
+        self.amplified()
+
+    def amplified(self):
+        """Each of 21 structs leads to the next one by two pointers. docs/guide.md writes the same message."""
+        link, last = "0400000000000200 0000000000000200", "0400000001000000 0000000001000000 0700000000000000"
+        message = framed(" ".join(["0000000000000200", *[link] * 20, last]))
+        command = re.search(r"^\$ (\{ printf .*\}) > amplified$", (TOP / "docs/guide.md").read_text(), re.M)[1]
+        got = (outputs(["bash", "-c", command])[0], self.lines([self.samples, "--walk"], message), self.lines([PROGRAM, "vet"], message))
+        walks = ["walked 6291454 of 44", "again throws"]
+        expected = (message, walks, ["message 0: accepted charge 6291454 depth 22 pointers 4194303 caps 0"])
+        no_faults("the words that libcapnp reads of 44", [] if got == expected else [got])
 
     def canonical_messages(self, empty):
         """Which messages of several segments libcapnp takes for canonical. One has an empty second segment."""
@@ -380,20 +396,23 @@ class Tests:
         no_faults("messages of encoders that are amplified", (it.message.hex() for it in strict if it.charge > it.words() + SLACK))
         return [it.tree for it in strict]
 
-    def many(self, bases, count):
+    def many(self, bases):
         """Changed messages, most of them small, and made-up ones of few words. Each construct occurs, and strict ones do."""
         self.counts.clear()
         small = [tree for tree in bases if sum(map(len, tree.segments)) < 130]
-        for batch in range(0, count, BATCH):
+        for batch in itertools.count(0, BATCH):
+            if batch >= MANY and self.counts["strict"] >= STRICT:
+                break
             chance = random.Random(batch)
             messages = [next(trees.messages(made_up(chance))) if chance.randrange(4) == 0
                         else changed(chance.choice(small if chance.randrange(4) else bases), chance)
-                        for _ in range(min(BATCH, count - batch))]
+                        for _ in range(min(BATCH, MANY - batch) if batch < MANY else BATCH)]
             self.compare(f"messages {batch} to {batch + len(messages) - 1}", messages)
+        made = self.counts["messages"]
         for name in CONSTRUCTS:
-            no_faults(f"{name} occurs", [self.counts[name]] if 2000 * self.counts[name] < count else [])
-        no_faults("strict messages occur", [self.counts["strict"]] if 4 * self.counts["strict"] < count else [])
-        no_faults("amplified messages occur", [self.counts["amplified"]] if 2000 * self.counts["amplified"] < count else [])
+            no_faults(f"{name} occurs", [self.counts[name]] if 2000 * self.counts[name] < made else [])
+        no_faults("strict messages occur", [self.counts["strict"]] if 4 * self.counts["strict"] < made else [])
+        no_faults("amplified messages occur", [self.counts["amplified"]] if 2000 * self.counts["amplified"] < made else [])
         print(f"readers: {dict(self.counts)}, the strict ones read by {', '.join(self.readers) or 'none'}")
 
 
@@ -402,7 +421,7 @@ def main():
         tests = Tests(build(Path(folder)))
         tests.constructs()
         tests.of_samples()
-        tests.many(tests.of_encoders(), MANY)
+        tests.many(tests.of_encoders())
     return ended()
 
 

@@ -9,8 +9,9 @@ those with words of UNTRIED.
 import re
 
 BLOCK = re.compile(r"^```(\w*)\n(.*?)^```$", re.M | re.S)
-# Commands that wait for peers, need rights, or take packages from a network, and a header for servers of pages.
-UNTRIED = ("rpc-guard.sh 4000", "--listen", "nc -l", "-S \"$HOSTS\"", "sudo ", "docker ", "Content-Security-Policy")
+# Commands that wait for peers, need rights, or take packages from a network, and a header for servers of pages. Roots have no openssl:
+# pages.py runs these commands. Debian has no pycapnp: python.py runs that program with a stand-in.
+UNTRIED = ("openssl pkey", "rpc-guard.sh 4000", "--listen", "nc -l", "-S \"$HOSTS\"", "sudo ", "docker ", "Content-Security-Policy", "import capnp\n")
 # The first line of a program in C.
 PROGRAM = re.compile(r"/\* (\w+\.c): ")
 MARK = "@@ step"

@@ -13,45 +13,47 @@ with a list of such formats of its own (Linux 6.7 or later).
 import functools
 import os
 import re
+import shlex
 import shutil
 import subprocess
 import sys
 import time
 from pathlib import Path
 
+import fresh_roots
 import reading
+from fresh_roots import PLAIN, merge, session
 from harness import TOP, compare
 from install import CONTACTS
-from needs import mirror, missing
+from needs import SOURCES, mirror, missing
 
 sys.path.insert(0, str(TOP / "packaging"))
 import packing  # noqa: E402 (it is in the folder that the line above names)
 
-# (`usr-is-merged` and its hook save the packages that merge an old root)
-MMDEBSTRAP = ["mmdebstrap", "--quiet", "--variant=minbase", "--hook-dir=/usr/share/mmdebstrap/hooks/merged-usr", "--include=usr-is-merged",
-              "--dpkgopt=force-unsafe-io"]
 # What the commands of the pages need, beside the packages. (No package of these is needed by another reader)
 TOOLS = ("g++ pkgconf cmake make cargo golang-go man-db jq parallel python3-venv python3-pip python3-cffi python3-distributed "
-         "libcapnp-dev bash-completion librust-capnp-dev librust-capnp-rpc-dev librust-futures-dev librust-tokio-dev "
-         "librust-tokio-util-dev nodejs npm")
+         f"libcapnp-dev bash-completion librust-capnp-dev nodejs npm {SOURCES['crates'][1]}")
 PAGES = ("guide", "service", "output", "c", "go", "python", "scale")
 PAGES_OF_ARCHIVE = (*PAGES, "js")
 USED = "export HOME=/home/reader LC_ALL=C.UTF-8; cd; rm -rf work; mkdir work; cd work"
-# A crate over both crates for other crates of Debian.
+# The minor version of the crate `capnp` in each release.
+MINORS = {"bookworm": "0.14", "trixie": "0.19"}
+# A crate over both adapters, for the `capnp` of a release.
 RUST = r"""mkdir -p src .cargo
 printf '[package]\nname = "it"\nversion = "0.1.0"\nedition = "2021"\n[dependencies]\n' > Cargo.toml
-printf 'capvet_capnp = "1.1"\ncapvet_capnp_rpc = "1.1"\n' >> Cargo.toml
+printf 'capvet_capnp = "@minor@"\ncapvet_capnp_rpc = "@minor@"\n' >> Cargo.toml
 printf '[source.crates-io]\nreplace-with = "debian"\n[source.debian]\ndirectory = "/usr/share/cargo/registry"\n' > .cargo/config.toml
 printf 'pub use capvet_capnp::vetted;\npub use capvet_capnp_rpc::vetting;\n' > src/lib.rs
 cargo build --quiet --offline && echo built"""
-CHARGE = "import capvet; print(capvet.vet(open(\"/srv/examples/contacts.bin\", \"rb\").read()).charge)"
+CHARGE = "import capvet; print(capvet.vet(open(\"/srv/examples/contacts.bin\", \"rb\").read()).report.charge)"
 # What a user does with each package that is installed alone: the command, and what it prints.
 ALONE = {
     "capvet": ("capvet vet /srv/examples/contacts.bin", CONTACTS),
-    "libcapvet1": ("ls /usr/lib/*/libcapvet.so.1 | wc -l", "1\n"),
+    "libcapvet2": ("ls /usr/lib/*/libcapvet.so.2 | wc -l", "1\n"),
     "libcapvet-dev": ("ls /usr/include/capvet.h", "/usr/include/capvet.h\n"),
     "python3-capvet": (f"python3 -c '{CHARGE}'", "391\n"),
-    "librust-capvet-dev": ("ls -d /usr/share/cargo/registry/capvet-*/src", None),
+    "librust-capvet-core-dev": ("ls -d /usr/share/cargo/registry/capvet-core-*/src", None),
+    "librust-capvet-dev": ("ls -d /usr/share/cargo/registry/capvet-[0-9]*/src", None),
     "golang-capvet-dev": ("ls /usr/share/gocode/src/capvet.invalid/capvet/go.mod", None),
     "capvet-guard": ("capvet-guard --version | cut -d' ' -f1", "capvet-guard\n"),
     "capvet-doc": ("ls /usr/share/doc/capvet/README.md", "/usr/share/doc/capvet/README.md\n"),
@@ -59,12 +61,10 @@ ALONE = {
     "librust-capvet-capnp-dev": ("ls -d /usr/share/cargo/registry/capvet_capnp-*/src", None),
     "librust-capvet-capnp-rpc-dev": ("ls -d /usr/share/cargo/registry/capvet_capnp_rpc-*/src", None),
 }
-# Those that need a crate of Debian 12 which Debian 13 lacks, and that crate.
-OF_DEBIAN_12, OLD_CRATE = ("librust-capvet-capnp-dev", "librust-capvet-capnp-rpc-dev"), "librust-capnp-0.14+default-dev"
-# The examples in Rust, each with what it prints. (the server and the client of `rpc` are only built)
-EXAMPLES = {"trixie": ["cd examples/rust", "cargo run --offline --quiet --bin vet -- ../contacts.bin"]}
-EXAMPLES["bookworm"] = [*EXAMPLES["trixie"], "cd rpc", "cargo build --offline --quiet", "cd ../read", "cargo run --offline --quiet -- ../../contacts.bin"]
-BUILT = {"trixie": CONTACTS, "bookworm": f"{CONTACTS}accepted, 391 words in capnp\n"}
+# The examples in Rust, as docs/rust.md says, and what they print. (`rpc` needs a later `capnp` than both releases have)
+EXAMPLES = ["cd examples/rust", "cargo run --offline --quiet --bin vet -- ../contacts.bin", "cd read",
+            "sed -i 's/\"0.27\"/\"@minor@\"/' Cargo.toml", "cargo run --offline --quiet -- ../../contacts.bin"]
+BUILT = f"{CONTACTS}accepted, 391 words in capnp\n"
 # Files of apt, dpkg and the linker's cache, which each installation changes.
 CHANGING = r"/(proc|sys|dev|tmp|run|var/lib/(apt|dpkg)|var/cache|var/log|srv|home)(/|$)|/etc/ld.so.cache$|/__pycache__(/|$)"
 FILES = f"find / -xdev | grep -Ev '{CHANGING}' | sort"
@@ -73,35 +73,15 @@ FILES = f"find / -xdev | grep -Ev '{CHANGING}' | sort"
 # What docs/install.md says to purge.
 PURGED = re.search(r"apt-get purge ('[^']*')", (TOP / "docs/install.md").read_text())[1]
 EXCLUDED = r"path-exclude=/usr/share/doc/*\npath-include=/usr/share/doc/*/copyright\n"
-PLAIN = {"PATH": "/usr/sbin:/usr/bin:/sbin:/bin", "DEBIAN_FRONTEND": "noninteractive"}
-
-
-def session(base, layer, script):
-    """What a script of bash writes in a layer over a root, and its status."""
-    shutil.rmtree(layer, ignore_errors=True)
-    for name in ("upper", "work", "merged"):
-        (layer / name).mkdir(parents=True)
-    mounted = f"""set -e
-mount -t overlay overlay -o lowerdir='{base}',upperdir='{layer}/upper',workdir='{layer}/work' '{layer}/merged'
-mount -t proc proc '{layer}/merged/proc'
-mount --bind /sys '{layer}/merged/sys'
-mount --bind /dev '{layer}/merged/dev'
-mount -t tmpfs tmpfs '{layer}/merged/dev/shm'
-cat > '{layer}/merged/srv/script'
-exec chroot '{layer}/merged' bash /srv/script"""
-    ran = subprocess.run(["unshare", "--mount", "--propagation", "private", "bash", "-c", mounted], input=script, text=True, timeout=3600,
-                         stdout=subprocess.PIPE, stderr=subprocess.STDOUT, env=PLAIN)
-    return ran.stdout, ran.returncode
 
 
 def make_root(folder, dist, suite):
     """A root of a release of Debian with a user, the samples, and the repository, by the line of docs/install.md."""
     base = folder / suite
-    made = subprocess.run([*MMDEBSTRAP, suite, base, mirror()], capture_output=True, text=True)
-    compare(f"a root of {suite}", 0, made.returncode if not made.returncode else made.stderr)
-    if made.returncode:
+    error = fresh_roots.make(base, suite)
+    compare(f"a root of {suite}", "", error)
+    if error:
         return None
-    shutil.copy("/etc/resolv.conf", base / "etc/resolv.conf")
     shutil.copytree(dist, base / "srv/dist")
     shutil.copytree(TOP / "examples", base / "srv/examples")
     page = (TOP / "docs/install.md").read_text()
@@ -115,22 +95,14 @@ def make_root(folder, dist, suite):
     return base
 
 
-def merge(base, upper):
-    """Keeps what a session has written in its root. (nothing was removed)"""
-    subprocess.run(["cp", "-a", f"{upper}/.", base], check=True)
-    shutil.rmtree(upper.parent)
-
-
 def as_user(script):
     """Commands that run a script as an ordinary user in a new folder."""
     return f"cat > /srv/user <<'END-OF-USER'\n{USED}\n{script}\nEND-OF-USER\nsetpriv --reuid=reader --regid=reader --clear-groups bash /srv/user"
 
 
-def refused(base, folder):
-    """Debian 13 lacks a crate, so apt installs none of the packages that need it, as docs/install.md says."""
-    for package in OF_DEBIAN_12:
-        text, status = session(base, folder / "alone", f"apt-get -qq install -y --no-install-recommends {package}")
-        compare(f"apt refuses {package} on Debian 13", (100, True), (status, OLD_CRATE in text or OF_DEBIAN_12[0] in text))
+def has_guard(dist):
+    """Whether the guard is packed."""
+    return any(dist.glob("apt/capvet-guard_*"))
 
 
 def purged_later(base, folder):
@@ -148,10 +120,10 @@ dpkg -l '*capvet*' 2>/dev/null | grep '^[a-z]i\\|^rc' || true
     compare(f"left of a package that was removed first, on {base.name}", ("", 0), (text, status))
 
 
-def alone(base, folder):
-    """Each package by itself: apt installs it with what it needs, it works, and nothing of it is left."""
+def alone(base, folder, packages):
+    """Each of these packages by itself: apt installs it with what it needs, it works, and nothing of it is left."""
     for package, (command, expected) in ALONE.items():
-        if base.name == "trixie" and package in OF_DEBIAN_12:
+        if package not in packages:
             continue
         script = f"""set -e
 apt-get -qq install -y --no-install-recommends {package} > /srv/log 2>&1 || {{ cat /srv/log; exit 1; }}
@@ -180,9 +152,9 @@ def together(base, folder, packages, excluded):
         page = page.replace(f"cp -r {docs}/examples .\n", "") if name == "README" else page
         scripts[name] = page, f"echo '@@@ {name}'\n{as_user(copy + reading.script(page))}\n"
     chosen = {"README": scripts["README"]} if excluded else scripts
-    examples = as_user("\n".join(["set -e", copy, *EXAMPLES[base.name]]))
+    examples = as_user("\n".join(["set -e", copy, *EXAMPLES]))
     built = "" if excluded else f"echo '@@@ examples'\n{examples}\n"
-    built += f"echo '@@@ crates'\n{as_user(RUST)}\n" if base.name == "bookworm" else ""
+    built = f"{built}echo '@@@ crates'\n{as_user(RUST)}\n".replace("@minor@", MINORS[base.name])
     script = f"""set -e
 {exclude}{FILES} > /srv/before
 apt-get -qq install -y --no-install-recommends {' '.join(packages)} > /srv/log 2>&1 || {{ cat /srv/log; exit 1; }}
@@ -201,9 +173,8 @@ diff /srv/before /srv/after || true
     for name, (page, _) in chosen.items():
         reading.read(f"{name} on {base.name}", page, parts.get(name, ""), compare)
     if not excluded:
-        compare(f"the examples in Rust on {base.name}", BUILT[base.name], parts.get("examples"))
-    if base.name == "bookworm":
-        compare("the crates over other crates of Debian", "built\n", parts.get("crates"))
+        compare(f"the examples in Rust on {base.name}", BUILT, parts.get("examples"))
+    compare(f"the adapters to the crate capnp on {base.name}", "built\n", parts.get("crates"))
     compare("documents", f"{'excluded' if excluded else 'there'}\n/usr/share/doc/capvet/copyright\n", parts.get("documents"))
     compare("files left of all packages", "", parts.get("left"))
 
@@ -215,7 +186,8 @@ def from_archive(base, folder, dist):
     top = folder / archive.name.removesuffix(".tar.gz")
     pages = {name: (top / name).read_text() for name in ("README.md", *(f"docs/{it}.md" for it in PAGES_OF_ARCHIVE))}
     blocks = of_install((dist / "README.md").read_text())
-    script = ["export npm_config_update_notifier=false"]
+    script = ["export npm_config_update_notifier=false",
+              f"mkdir .cargo\ncat > .cargo/config.toml <<'END-OF-CRATES'\n{crates_of_debian((dist / 'README.md').read_text())}END-OF-CRATES"]
     for name, (_, before, block, _) in blocks.items():
         script.append(f"echo '@@@ {name}'\n(cp -r /srv/dist received; cd received\n{before}set -e\n{block})\necho $?\nrm -rf received")
     script.append(f"tar xf /srv/dist/{archive.name}; cd {top.name}\nexport PATH=$PWD/bin:$PATH PKG_CONFIG_PATH=$PWD/lib/pkgconfig")
@@ -230,13 +202,18 @@ def from_archive(base, folder, dist):
     shutil.rmtree(top)
 
 
+def crates_of_debian(page):
+    """What docs/install.md says to write for cargo, so that crates come from Debian's packages."""
+    return next(text for language, text in reading.BLOCK.findall(page) if language == "toml")
+
+
 def of_install(page):
     """The blocks of docs/install.md that need no rights, by their names: the tools that each needs, what comes before it, its commands
     and what it prints. They begin in a copy of dist/."""
     version = packing.version()
     unpack = f"tar xf capvet-{version}-x86_64-linux.tar.gz\nexport CAPVET=$PWD/capvet-{version}-x86_64-linux\n"
     begun = {"sums": ((), "", ""), "any Linux": ((), "", f"capvet {packing.version_text()}\n"), "Python": (("wheel",), "", f"{version}\n"),
-             "Rust": (("cargo", "cc", "pkg-config"), f"{unpack}cargo new --quiet --vcs none rust\ncd rust\n", ""),
+             "Rust": (("cargo", "cc", "crates"), f"{unpack}cargo new --quiet --vcs none rust\ncd rust\n", ""),
              "Go": (("go", "cc", "pkg-config"), f"{unpack}mkdir go\ncd go\ngo mod init hello 2> /dev/null\n", ""),
              "JavaScript": (("wasm-opt", "node", "npm"), f"mkdir js\ncp capvet-{version}.tgz js\ncd js\n", "")}
     found = [text for language, text in reading.BLOCK.findall(page) if language == "sh" and not any(it in text for it in reading.UNTRIED)]
@@ -249,7 +226,7 @@ def of_install(page):
 
 ARM_FORMAT = (r":qemu-aarch64:M::\x7fELF\x02\x01\x01\x00\x00\x00\x00\x00\x00\x00\x00\x00\x02\x00\xb7\x00:"
               r"\xff\xff\xff\xff\xff\xff\xff\x00\xff\xff\xff\xff\xff\xff\xff\xff\xfe\xff\xff\xff:/usr/bin/qemu-aarch64-static:OCF")
-ARM_PACKAGES = ("capvet", "libcapvet1", "libcapvet-dev", "python3-capvet", "capvet-guard")
+ARM_PACKAGES = ("capvet", "libcapvet2", "libcapvet-dev", "python3-capvet")
 # The kernel has to give a user namespace a list of formats of its own.
 ARM_PREPARED = f"""mount -t proc proc /proc
 mount -t binfmt_misc binfmt_misc /proc/sys/fs/binfmt_misc
@@ -277,21 +254,22 @@ def on_arm(dist, folder):
     if missing("the packages in a root for arm64", "qemu-aarch64-static", "arch-test"):
         return
     base = folder / "arm64"
+    packages = [*ARM_PACKAGES, *["capvet-guard"] * has_guard(dist)]
     used = ["capvet vet /srv/examples/contacts.bin", ALONE["python3-capvet"][0], "python3 -m capvet vet /srv/examples/shared.bin | tail -n 1",
-            ALONE["capvet-guard"][0], "ls /usr/include/capvet.h"]
-    expected = CONTACTS + "391\nfiles 1 bytes 40 messages 1 accepted 1 refused 0\ncapvet-guard\n/usr/include/capvet.h\n"
+            *[ALONE["capvet-guard"][0]] * has_guard(dist), "ls /usr/include/capvet.h"]
+    expected = CONTACTS + "391\nfiles 1 bytes 40 messages 1 accepted 1 refused 0\n" + "capvet-guard\n" * has_guard(dist) + "/usr/include/capvet.h\n"
     inside = f"""set -e
 echo 'deb [trusted=yes] file:/srv/dist/apt ./' > /etc/apt/sources.list.d/capvet.list
 apt-get -qq update; useradd -m reader
 {FILES} > /srv/before
-apt-get -qq install -y --no-install-recommends {' '.join(ARM_PACKAGES)} > /srv/log 2>&1 || {{ cat /srv/log; exit 1; }}
+apt-get -qq install -y --no-install-recommends {' '.join(packages)} > /srv/log 2>&1 || {{ cat /srv/log; exit 1; }}
 {as_user("; ".join(used))}
-apt-get -qq purge -y {' '.join(ARM_PACKAGES)} > /srv/log 2>&1 || {{ cat /srv/log; exit 1; }}
+apt-get -qq purge -y {' '.join(packages)} > /srv/log 2>&1 || {{ cat /srv/log; exit 1; }}
 {FILES} > /srv/after
 diff /srv/before /srv/after || true
 """
     (folder / "inside").write_text(inside)
-    text, status = emulated(f"""{' '.join(MMDEBSTRAP)} --mode=root --arch=arm64 --include=python3,python3-cffi-backend bookworm '{base}' {mirror()} \\
+    text, status = emulated(f"""{shlex.join(fresh_roots.MMDEBSTRAP)} --mode=root --arch=arm64 --include=usr-is-merged,python3,python3-cffi-backend bookworm '{base}' {mirror()} \\
   > '{folder}/log' 2>&1 || {{ cat '{folder}/log'; exit 1; }}
 cp /etc/resolv.conf '{base}/etc'; cp -r '{dist}' '{base}/srv/dist'; cp -r '{TOP}/examples' '{base}/srv/examples'
 mount -t proc proc '{base}/proc'
@@ -311,7 +289,7 @@ def check(dist, folder):
     subprocess.run(["dpkg-deb", "-x", next(dist.glob("apt/capvet-doc_*.deb")), place / "pages"], check=True)
     for suite in ("trixie", "bookworm"):
         if base := make_root(place, dist, suite):
-            on(base, place, dist, [it for it in packages if suite == "bookworm" or it not in OF_DEBIAN_12])
+            on(base, place, dist, packages)
             shutil.rmtree(base)
     on_arm(dist, place)
     shutil.rmtree(place)
@@ -319,10 +297,9 @@ def check(dist, folder):
 
 def on(base, folder, dist, packages):
     """All of it in a root of a release."""
-    if base.name == "trixie":
-        refused(base, folder)
-    alone(base, folder)
-    purged_later(base, folder)
+    alone(base, folder, packages)
+    if has_guard(dist):
+        purged_later(base, folder)
     text, status = session(base, folder / "tools", f"apt-get -qq install -y --no-install-recommends {TOOLS} > /srv/log 2>&1 || cat /srv/log")
     compare(f"tools of developers on {base.name}", ("", 0), (text, status))
     merge(base, folder / "tools/upper")

@@ -12,6 +12,7 @@ What isn't installed is said in a line of its own. The last line is 'N passed, M
 failed.
 """
 import os
+import random
 import shutil
 import socket
 import struct
@@ -25,7 +26,8 @@ from harness import PROGRAM, TOP, compare, ended, run
 from needs import missing
 
 STRICT = ("-std=c++17", "-O1", "-Wall", "-Wextra", "-Wpedantic", "-Wconversion", "-Werror")
-SECONDS = 30
+# How long a case waits for what has to come. Only a hang takes longer, however busy the machine is.
+SECONDS = 180
 CALLED = """\
 200 sums: 20000
 200 counters: 19900 and 20100
@@ -41,16 +43,30 @@ LINE = "message {}: refused DepthLimit at 0:0 pointers 65\n"
 
 def until(holds):
     """Waits until something holds, for a bounded time. Whether it does."""
-    for _ in range(50 * SECONDS):
-        if holds():
-            return True
+    end = time.monotonic() + SECONDS
+    while not (found := bool(holds())) and time.monotonic() < end:
         time.sleep(0.02)
-    return False
+    return found
+
+
+# The ports of `free_port`. Each has a name that no other script on this machine can have, until this one ends.
+TAKEN = []
 
 
 def free_port():
-    with socket.create_server(("127.0.0.1", 0)) as listener:
-        return listener.getsockname()[1]
+    """A port at which nobody listens, and that no other script gets. The system gives no client a port as low, so none has it before it
+    is used."""
+    first = int(Path("/proc/sys/net/ipv4/ip_local_port_range").read_text().split()[0])
+    while True:
+        port = random.SystemRandom().randrange(10000, max(20000, first))
+        name = socket.socket(socket.AF_UNIX)
+        try:
+            name.bind(f"\0capvet-port-{port}")
+            with socket.create_server(("127.0.0.1", port)):
+                TAKEN.append(name)
+                return port
+        except OSError:
+            name.close()
 
 
 def is_open(port):
@@ -58,8 +74,19 @@ def is_open(port):
     return f" 0100007F:{port:04X} 00000000:0000 0A " in Path("/proc/net/tcp").read_text()
 
 
+def unread(port):
+    """The bytes that were sent to connections of this port, and that the process there has not taken."""
+    name, count = f"0100007F:{port:04X}", 0
+    for line in Path("/proc/net/tcp").read_text().splitlines()[1:]:
+        _, here, there, state, queues, *_ = line.split()
+        # (connections that are open, at least at their own end: what one has sent, and what the other one has got)
+        if state in ("01", "04", "05", "08") and name in (here, there):
+            count += int(queues.split(":")[here == name], 16)
+    return count
+
+
 class Guard:
-    """The guard before a server, with the built program on its path."""
+    """The guard in front of a server, with the built program on its path."""
 
     def __init__(self, folder, server):
         self.port, self.errors = free_port(), folder / "errors"
@@ -282,7 +309,7 @@ def rpc(folder, ez):
                 compare("the reply to a valid message", 8, len(reply))
                 client.sendall(CYCLE)
                 compare("the connection after a circle", "closed", all_of(client)[1])
-            compare("the line of the circle", LINE.format(1), guard.lines())
+            compare("the line of the circle", LINE.format(1), of_capvet(guard.lines()))
             compare("calls afterwards", (CALLED, 0), called(ez, guard.port))
             compare("the lines of these calls", [], without_failed(guard.lines()))
     finally:

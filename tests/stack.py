@@ -158,8 +158,8 @@ def measure(built, folder, most, header):
     for name, size in sorted(taken.items(), key=lambda pair: -pair[1]):
         print(f"stack: {name} takes at most {size:,} bytes")
         expect(f"the stack of {name}", size <= most, f"{size} bytes, and the header has {most}")
-    named = set(re.findall(r"\b(capvet_\w+)\(", header)) - {"capvet_answer_name", "capvet_cpu_supported"}
-    has = {name for name in named if name in taken or name.endswith("_bound")} | {"capvet_limits_default", "capvet_abi_1"}
+    named = set(re.findall(r"\b(capvet_\w+)\(", header)) - {"capvet_answer_name", "capvet_difference_name", "capvet_cpu_supported"}
+    has = {name for name in named if name in taken or name.endswith("_bound")} | {"capvet_limits_default", "capvet_abi_2"}
     expect("each call of the header is measured", named <= has, str(named - has))
     compare(f"capvet_vet_exclusive on a thread of {THREAD} bytes", ("Ok\n", 0), run([built, "--thread", THREAD, path]))
     print(f"stack: measured over {count} messages")

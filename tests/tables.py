@@ -4,6 +4,7 @@ Streams are in hexadecimal digits, in words as far as they have such, and texts 
 texts were written from docs/output.md, and those of a wrong command line are the library clap's. Nothing here was
 computed by the program.
 """
+import hashlib
 import struct
 from typing import NamedTuple
 
@@ -17,6 +18,11 @@ class Row(NamedTuple):
     out: str | bytes
     err: str = ""
     status: int = 0
+
+
+def hashed(copy, number=0):
+    """The line of a message with this canonical copy, which has a table."""
+    return f"message {number}: sha256 {hashlib.sha256(word(copy)[8:]).hexdigest()}\n"
 
 
 # ------------------------------------------------------------------ streams
@@ -79,6 +85,7 @@ VERDICTS = (
     Row("vet", "0000000001000000 fcffffff00000000", "message 0: accepted charge 0 depth 1 pointers 1 caps 0\n"),
     Row("vet --words 1", STRUCT, "message 0: accepted charge 1 depth 1 pointers 1 caps 0\n"),
     Row("vet --words 0", STRUCT, "message 0: refused WordLimit at 0:0 pointers 1\n", status=1),
+    Row("vet --charge 0", STRUCT, "message 0: refused WordLimit at 0:0 pointers 1\n", status=1),
     Row("vet --depth 0", STRUCT, "message 0: refused DepthLimit at 0:0 pointers 1\n", status=1),
     Row("vet", CYCLE, "message 0: refused DepthLimit at 0:0 pointers 65\n", status=1),
     Row("vet --words 10", CYCLE, "message 0: refused WordLimit at 0:0 pointers 11\n", status=1),
@@ -155,6 +162,7 @@ ENDS = (
     # larger than the limit, whether the contents are there or not
     Row("vet", "00000000ffffffff", "", "capvet: message 0: TooLarge 4294967295\n", 1),
     Row("vet --size 1", STRUCT, "", "capvet: message 0: TooLarge 2\n", 1),
+    Row("vet --message-words=1", STRUCT, "", "capvet: message 0: TooLarge 2\n", 1),
 )
 
 # Streams of one message, and what is said of it.
@@ -414,6 +422,7 @@ WITHIN_LIMITS = {
                "  d2 0700000000000000\n",
     "check": "message 0: canonical\n",
     "canon": word(LIMITED),
+    "hash": hashed(LIMITED),
     "filter": word(LIMITED),
 }
 
@@ -532,6 +541,10 @@ DUMPS = (
     # messages that are refused
     Row("dump", CYCLE, "message 0: refused DepthLimit at 0:0 pointers 65\n", status=1),
     Row("dump --words 3", SHARED, "message 0: refused WordLimit at 0:2 pointers 3\n", status=1),
+    # numbers of each length: lists of elements without bits, each of which costs a word
+    *(Row("dump --words 268435456", f"0000000001000000 01000000{(8 * count).to_bytes(4, 'little').hex()}",
+          f"message 0: accepted charge {count} depth 1 pointers 1 caps 0\nroot list 0 {count}\n")
+      for count in (12, 123, 1234, 12345, 123456, 1234567, 12345678, 123456789)),
     # other nodes
     Row("dump", CAPABILITY, "message 0: accepted charge 0 depth 0 pointers 1 caps 1\nroot cap 5\n"),
     Row("dump", STRUCT,
@@ -691,7 +704,7 @@ LONG = "0000000003000000 0000000002000000 2a00000000000000 0000000000000000"
 SHORT = "0000000002000000 0000000001000000 2a00000000000000"
 ROOTLESS = "0000000000000000"
 
-# The first message without a copy ends the copies, and none ends the check.
+# The first message without a copy ends the copies, and none ends the check or the hashes.
 COPY_ENDS = (
     Row("canon", f"{LONG} {CAPABILITY} {LONG}", word(SHORT), "capvet: message 1: HasCapability at 0:0\n", 1),
     Row("canon", f"{LONG} {CYCLE} {LONG}", word(SHORT), "capvet: message 1: refused DepthLimit at 0:0\n", 1),
@@ -702,6 +715,15 @@ COPY_ENDS = (
         "message 2: not canonical\n"
         "message 3: not canonical\n"
         "message 4: refused NoRoot at 0:0 pointers 0\n", status=1),
+    # (the hashes were computed by sha256sum)
+    Row("hash", f"{SHORT} {CYCLE} {LONG} {CAPABILITY} {ROOTLESS} {NULL}",
+        "message 0: sha256 9a8603f739d25a881287ef8c3fdad74c3ca1caa41983f09f83acf1506750b94e\n"
+        "message 1: refused DepthLimit at 0:0 pointers 65\n"
+        "message 2: sha256 9a8603f739d25a881287ef8c3fdad74c3ca1caa41983f09f83acf1506750b94e\n"
+        "message 3: no canonical form, capability at 0:0\n"
+        "message 4: refused NoRoot at 0:0 pointers 0\n"
+        "message 5: sha256 af5570f5a1810b7af78caf4bc70a660f0df51e42baf91d4de5b2328de0e83dfc\n", status=1),
+    Row("hash", f"{LONG} {SHORT}", f"{hashed(SHORT)}{hashed(SHORT, 1)}"),
 )
 
 # Words, and their packed encoding. The first and the fourth are texts of the encoding specification's section on packing.
@@ -764,7 +786,7 @@ WORDS = (
 )
 
 # One case for each thing that a command does with a stream, or writes of a fault, by what it shows. The whole of both outputs and
-# the status are compared: the eight commands without `explain` and `filter` write one line for a fault, and nothing after it.
+# the status are compared: the commands without `explain`, `filter` and `hash` write one line for a fault, and nothing after it.
 SHOWN = {
     "a refused message, and the numbers of the next ones, before a fault": Row(
         "vet", f"{SHARED} {CYCLE} {NULL} ffffffff00000000",
@@ -784,6 +806,27 @@ SHOWN = {
     "copies before a message that is cut": Row("canon", f"{LONG} 00000000", word(SHORT), "capvet: message 1: Truncated at byte 36\n", 1),
     "copies before a capability": Row("canon", f"{LONG} {CAPABILITY}", word(SHORT), "capvet: message 1: HasCapability at 0:0\n", 1),
     "copies before a refused message": Row("canon", f"{LONG} {CYCLE}", word(SHORT), "capvet: message 1: refused DepthLimit at 0:0\n", 1),
+    "hashes before a message that is cut": Row("hash", f"{LONG} 00000000", hashed(SHORT), "capvet: message 1: Truncated at byte 36\n", 1),
+    "no guess of a packed stream": Row("vet", "1002 1001 012a 0000", "", "capvet: message 0: TooManySegments 17826321\n", 1),
+    "a hash of a packed stream": Row(
+        "hash", "1002 1001 012a 0000", "",
+        "capvet: message 0: TooManySegments 17826321\ncapvet: the input looks packed: try --packed\n", 1),
+    "a hash of one packed message": Row(
+        "hash --one", "1002 1001 012a 0000", "",
+        "capvet: message 0: TooManySegments 17826321\ncapvet: the input looks packed: try --packed\n", 1),
+    "an object of a packed stream": Row(
+        "hash --json --one", "1002 1001 012a 0000", "",
+        "capvet: message 0: TooManySegments 17826321\ncapvet: the input looks packed: try --packed\n", 1),
+    "no guess after a message": Row(
+        "hash", f"{SHORT} 1002 1001 012a 0000", hashed(SHORT), "capvet: message 1: TooManySegments 17826321\n", 1),
+    "text in a filter": Row(
+        "filter --one", b"GET / HTTP/1.1\r\n".hex(), "",
+        "capvet: message 0: TooManySegments 542393672\ncapvet: the input looks like text\n", 1),
+    "gzip in a filter for packed streams": Row(
+        "filter --packed", "1f8b0800 00000000", "",
+        "capvet: message 0: TooManySegments 2188\ncapvet: the input looks like gzip: decompress it first\n", 1),
+    "a message with a capability has no hash": Row("hash", CAPABILITY, "message 0: no canonical form, capability at 0:0\n", status=1),
+    "no hash without a root": Row("hash", "0000000000000000", "message 0: refused NoRoot at 0:0 pointers 0\n", status=1),
     "no copy without a root": Row("canon", "0000000000000000", "", "capvet: message 0: refused NoRoot at 0:0\n", 1),
     "no verdict on the form without a root": Row("check", "0000000000000000", "message 0: refused NoRoot at 0:0 pointers 0\n", status=1),
     "a message with a capability is not canonical": Row("check", CAPABILITY, "message 0: not canonical\n", status=1),
@@ -824,6 +867,7 @@ SHOWN = {
     "a limit of a dump": Row("dump --words 0", "", ""),
     "a limit of a check": Row("check --words 0", "", ""),
     "a limit of copies": Row("canon --words 0", "", ""),
+    "a limit of hashes": Row("hash --words 0", "", ""),
     "a limit after a path": Row("get / --words 0", "", ""),
     "a limit before a path": Row("get --depth 0 /", "", ""),
     "a file that isn't there": Row("vet no-such-file", NULL, "", "capvet: cannot open no-such-file\n", 3),
@@ -847,6 +891,13 @@ FILES = (
 
 # ------------------------------------------------------------------ command lines
 
+# Sizes with units, and their numbers of words.
+SIZES = (
+    ("0kB", 0), ("1kB", 125), ("3kB", 375), ("4kB", 500), ("007kB", 875), ("1KiB", 128), ("3KiB", 384), ("4KiB", 512),
+    ("1MB", 125_000), ("40MB", 5_000_000), ("1MiB", 131_072), ("64MiB", 8_388_608), ("1GB", 125_000_000), ("2GB", 250_000_000),
+    ("1GiB", 134_217_728), ("2GiB", 268_435_456), ("2147483kB", 268_435_375), ("2097152KiB", 268_435_456),
+)
+
 # Command lines that are wrong, and what is said of them.
 MISTAKES = (
     ("vet --size 268435457", "invalid value '268435457' for '--size <N>': 268435457 is not in 0..=268435456\n"),
@@ -865,7 +916,7 @@ MISTAKES = (
      "Usage: capvet vet --depth <N> [FILE]\n"),
     ("",
      "'capvet' requires a subcommand but one was not provided\n"
-     "  [subcommands: segments, vet, explain, filter, dump, get, check, canon, pack, unpack, help]\n"
+     "  [subcommands: segments, vet, explain, filter, dump, get, check, canon, hash, pack, unpack, help]\n"
      "\n"
      "Usage: capvet <COMMAND>\n"),
     ("vat",
@@ -880,6 +931,11 @@ MISTAKES = (
      "  tip: to pass '--packed' as a value, use '-- --packed'\n"
      "\n"
      "Usage: capvet pack [FILE]\n"),
+    ("vet --size 64M", "invalid value '64M' for '--size <N>': it is a number of words of 8 bytes, or a size such as 64MiB or 40MB\n"),
+    ("vet --charge=1.5MiB", "invalid value '1.5MiB' for '--words <N>': it is a number of words of 8 bytes, or a size such as 64MiB or 40MB\n"),
+    ("vet --message-words 3GiB", "invalid value '3GiB' for '--size <N>': it is more than 2GiB, which is 268435456 words of 8 bytes\n"),
+    ("hash --words 99999999999999999999kB",
+     "invalid value '99999999999999999999kB' for '--words <N>': it is more than 2GiB, which is 268435456 words of 8 bytes\n"),
     ("segments --size x", "invalid value 'x' for '--size <N>': invalid digit found in string\n"),
     ("segments --size 268435457", "invalid value '268435457' for '--size <N>': 268435457 is not in 0..=268435456\n"),
 )
@@ -892,6 +948,7 @@ MISTAKE_BEGINNINGS = (
     ("segments --words 1", "error: unexpected argument '--words' found"),
     ("vet --pack", "error: unexpected argument '--pack' found"),
     ("dump --exclusive", "error: unexpected argument '--exclusive' found"),
+    ("check --canonical", "error: unexpected argument '--canonical' found"),
     ("vet --exclusive=1", "error: unexpected value '1' for '--exclusive' found"),
     ("canon --strict=1", "error: unexpected value '1' for '--strict' found"),
     ("segments --strict", "error: unexpected argument '--strict' found"),
@@ -945,9 +1002,16 @@ NAMES = (
     ("canon a --unamplified --packed --strict", "a"),
     ("filter --allow-nonstrict a --allow-amplified --packed --stop --pack --exclusive", "a"),
     ("filter --strict a --unamplified", "a"),
+    ("filter --one a --stop", "a"),
+    ("hash a --one --packed", "a"),
+    ("explain --canonical a --exclusive", "a"),
+    ("get --one /p0 a", "a"),
     ("filter --allow-amplified --strict a", "a"),
     ("get /p65535 some.bin --packed", "some.bin"),
     ("get --size=1 --words=2 --depth=3 /i4294967295 -", "-"),
     ("pack a", "a"),
     ("unpack a", "a"),
+    ("vet --size 2GiB --words=2147483kB a", "a"),
+    ("vet --message-words 64MiB --charge=40MB 64M", "64M"),
+    ("vet --size 8MB -- 1.5MiB", "1.5MiB"),
 )

@@ -11,11 +11,11 @@ import model
 from amount import cases
 from harness import compare, expect, over_file, under_valgrind
 from made import made_up
-from model import ANSWERS, FIELDS, Limits, unframed
+from model import ANSWERS, FIELDS, REPORT, Limits, unframed
 from needs import missing
 
 # the answer, consumed, required, the state and the report, with the reserved fields
-REPLY = struct.Struct("<I2QQ2I2Q6Q4I4Q")
+REPLY = struct.Struct(f"<I2QQ2I2Q{REPORT}")
 STREAMS = cases(20_000, full=100_000)  # packed streams, unpacked call by call
 LEAST = STREAMS // 100
 ZERO = (0, 0, 0, 0, 0)
@@ -69,7 +69,8 @@ def unpacked(data, out, state, limits):
         written, at = written + 8, at + more
     left = written, zeros, literal, 0, 0
     if answer == "OK":
-        return result("OK", at, written, (0, *left[1:]), length=written, segments=len(message))
+        return result("OK", at, written, (0, *left[1:]), length=written, segments=len(message),
+                      words=sum(map(len, message)))
     if answer not in ("NO_MESSAGE", "TRUNCATED"):
         return result(answer, at, 0, left, **fields)
     if word is not None:
@@ -150,7 +151,7 @@ def other_state(state, out, chance):
 def other_limits(limits, chance):
     """Other limits, most of which are bad."""
     return chance.choice((Limits(flags=8), Limits(flags=1 << 23), Limits(depth=257), Limits(charge=1 << 28 | 1),
-                          Limits(message_words=1 << 28 | 1), Limits(reserved=(0, 1)), Limits(depth=0, charge=0, flags=7),
+                          Limits(message_words=1 << 28 | 1), Limits(reserved=(0, 0, 0, 0, 0, 1)), Limits(depth=0, charge=0, flags=7),
                           Limits(message_words=limits.message_words + 1), Limits(message_words=1 << 28)))
 
 
@@ -197,7 +198,7 @@ def compare_calls(program, calls):
         if end > len(replies):
             break
         reply, out = REPLY.unpack_from(replies, at), replies[end - len(call[1]):end]
-        holds = (*reply[:3], reply[3:8], reply[8:18], out) == expected and not any(reply[18:])
+        holds = (*reply[:3], reply[3:8], reply[8:8 + len(FIELDS)], out) == expected and not any(reply[8 + len(FIELDS):])
         expect(lambda: f"unpacking {call}", holds, lambda: f"{reply} {out}\n  {expected}")
         most = 8 * call[3].message_words + 2056
         expect("the bound of a frame", reply[2] <= most, lambda: f"{reply} is above {most}")

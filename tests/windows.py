@@ -3,7 +3,7 @@
 
     windows.py [PROGRAM] [--full]
 
-`packaging/capvet_c.py` builds it, by Debian's own Rust, which has a std for Windows. The programs of tests/c are compiled by MinGW and
+`packaging/by_cargo.py` builds it, by Debian's own Rust, which has a std for Windows. The programs of tests/c are compiled by MinGW and
 linked with the archive. Each runs under wine, with the cases of calls.py: known buffers, the lines and canonical copies of many
 messages, packed bytes, packed messages, flags and reports, nodes, and the paths of pointers. PROGRAM, for this machine, writes what is
 expected. `calls` is also linked with the DLL, which exports the calls of the header.
@@ -22,12 +22,11 @@ import tempfile
 from pathlib import Path
 
 import calls as by_c
-import header
 import needs
+from cargo import environment
 from harness import PROGRAM, TOP, compare, ended, expect, run
 from header import calls
 from needs import missing
-from plain import environment
 
 TARGET, MINGW = "x86_64-pc-windows-gnu", "x86_64-w64-mingw32-gcc"
 OUT = TOP / "build/cargo" / TARGET
@@ -63,31 +62,28 @@ def compiled(folder, name, compiler, standard, archive, *options):
 def built(folder):
     """Whether the library is built, by Debian's Rust."""
     variables = {**environment(folder), "CARGO_TARGET_DIR": str(TOP / "build/cargo/target-oldest"), "PATH": f"{needs.OLDEST_RUST}:{os.environ['PATH']}"}
-    said, status = run([sys.executable, "packaging/capvet_c.py", TARGET], cwd=TOP, env=variables)
-    expect(f"packaging/capvet_c.py {TARGET}", status == 0, said)
+    said, status = run([sys.executable, "packaging/by_cargo.py", "--library", TARGET], cwd=TOP, env=variables)
+    expect(f"packaging/by_cargo.py {TARGET}", status == 0, said)
     return status == 0
 
 
 def exports():
     """What the DLL and the archive export."""
-    table = run(["x86_64-w64-mingw32-objdump", "-p", OUT / "capvet-1.dll"])[0].partition("[Ordinal/Name Pointer] Table")[2]
+    table = run(["x86_64-w64-mingw32-objdump", "-p", OUT / "capvet-2.dll"])[0].partition("[Ordinal/Name Pointer] Table")[2]
     compare("the exports of the DLL", sorted(calls()), sorted(re.findall(r"^\t\[ *\d+\] (?:\+base\[ *\d+\] +\w+ )?(\w+)$", table, re.M)))
     symbols = run(["x86_64-w64-mingw32-nm", "--extern-only", OUT / "libcapvet.a"])[0]
     compare("the archive's global symbols", sorted(calls()), sorted(re.findall(r" T (\w+)$", symbols, re.M)))
     expect("what it needs", set(re.findall(r" U (\w+)$", symbols, re.M)) <= {"abort", "memcmp", "memcpy", "memmove", "memset"}, symbols)
 
 
-def known(folder):
-    """The calls on known buffers, over the archive and over the DLL, and the names of answers."""
-    shutil.copy(OUT / "capvet-1.dll", folder)
+def known(folder, program):
+    """The calls on known buffers, over the archive and over the DLL, and the names of answers and of differences."""
+    shutil.copy(OUT / "capvet-2.dll", folder)
     for library in (OUT / "libcapvet.a", OUT / "libcapvet.dll.a"):
-        program = compiled(folder, "calls", MINGW, "c11", library, "-O1")
-        if program is not None:
-            by_c.clean(f"calls over {library.name}", program)
-    program = compiled(folder, "names", MINGW, "c11", OUT / "libcapvet.a")
-    if program is not None:
-        names = {int(number): name for number, name in (line.split() for line in run([program])[0].splitlines())}
-        compare("the names of answers", header.names(), names)
+        buffers = compiled(folder, "calls", MINGW, "c11", library, "-O1")
+        if buffers is not None:
+            by_c.clean(f"calls over {library.name}", buffers)
+    by_c.named(folder, MINGW, ["c11"], OUT / "libcapvet.a", program)
 
 
 def messages(folder, program):
@@ -120,7 +116,7 @@ def main():
             subprocess.run(words, stdin=subprocess.DEVNULL, stdout=subprocess.DEVNULL, stderr=subprocess.DEVNULL)
         if built(folder):
             exports()
-            known(folder)
+            known(folder, PROGRAM)
             messages(folder, PROGRAM)
             packed(folder, PROGRAM)
             for part in (by_c.test_streams, by_c.test_flags, by_c.test_nodes, by_c.test_paths):

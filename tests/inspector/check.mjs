@@ -1,15 +1,17 @@
 // Compares what the page finds out by itself with the program's verdicts: check.mjs FILE
 //
 // Each line of FILE is a JSON object: `hex`, the message; `lines`, by `vet`, `vet --strict` and `vet --exclusive`, each a verdict;
-// `texts`, the lines that `explain` adds to each; `uses`, how many words nothing uses and how many are used twice, or null if it is refused. The last line is how many checks passed
-// and how many failed.
+// `texts`, the lines that `explain` adds to each; `uses`, how many words nothing uses and how many are used twice, or null if it is refused;
+// `first`, the first difference of an accepted message from its canonical copy, or null if it has none. The last line is how many checks
+// passed and how many failed.
 import { readFileSync } from "node:fs";
+import { explainedDifference, isDiffering } from "../../inspector/format/difference.js";
 import { Message } from "../../inspector/format/message.js";
 import { Node, parsePath } from "../../inspector/format/nodes.js";
 import { Found, follow, laxForm } from "../../inspector/format/pointer.js";
 import { explained } from "../../inspector/format/refusal.js";
 import { selectionOf } from "../../inspector/format/selection.js";
-import { KIND, LOOKED, TABLE, TWICE, UNUSED, WordMap, walk } from "../../inspector/format/walk.js";
+import { KIND, LOOKED, PAD, SURPLUS, TABLE, TAG, TWICE, UNUSED, VALUE, WordMap, walk } from "../../inspector/format/walk.js";
 
 const LIMITS = { words: 8388608, charge: 8388608, depth: 64, isStrict: false, isUnamplified: false };
 // (these are about limits, or about no pointer)
@@ -58,11 +60,40 @@ function checkAccepted(it, message, { charge, pointers }) {
   const marks = [...map.marks], unused = marks.filter((mark) => (mark & KIND) === UNUSED).length;
   check("the words", JSON.stringify([unused, marks.filter((mark) => mark & TWICE).length]) === JSON.stringify(it.uses), it);
   check("the table", marks.filter((mark) => (mark & KIND) === TABLE).length === message.table, it);
+  if (it.first) checkDifference(it, message, map);
   for (let at = message.table; at < message.total; at++) {
     const { steps, detail } = selectionOf(message, map, null, at);
     if (steps === null || detail || !(map.marks[at] & LOOKED)) continue;
     check(`the way to ${message.place(at)}`, wordAt(message, steps.map((step) => `/${step.label}`).join("") || "/") === at, it);
   }
+}
+
+/** What holds of each word that differs, by the reason. */
+const DIFFERS = {
+  Segments: ({ kind }) => kind === TABLE,
+  Far: ({ kind, isTwice }) => kind === PAD || isTwice,
+  Capability: ({ form }) => form === "capability",
+  EmptyStruct: ({ form, hex }) => form === "struct" && hex.endsWith("00000000") && hex !== "fcffffff00000000",
+  Place: ({ kind, isPointer }) => kind !== UNUSED && kind !== TABLE || isPointer,
+  Bits: ({ kind, hex }) => kind === VALUE && hex !== "0".repeat(16),
+  EmptyList: ({ kind, hex }) => kind === TAG && hex.startsWith("00000000") && hex !== "0".repeat(16),
+  Surplus: ({ kind, isTwice }) => kind === SURPLUS || isTwice,
+  DataZero: ({ hex }) => hex === "0".repeat(16),
+  PointerNull: ({ form }) => form === "null" || form === "far",
+  Trailing: ({ kind }) => kind === UNUSED,
+};
+
+/** The words that differ are those that the reason is about. */
+function checkDifference(it, message, map) {
+  const { reason, position: { segment, word }, path } = it.first, { at, words, sentence } = explainedDifference(message, it.first);
+  check("the place of the first difference", message.place(at) === `${segment}:${word}` && (path === null || wordAt(message, path) === at), it);
+  const all = Array.from({ length: message.total }, (_, place) => place).filter((place) => isDiffering(words, place));
+  check("the words that differ", all.length === words.count && all.length > 0 && all[0] === words.start, it);
+  const holds = all.every((place) => DIFFERS[reason]({
+    kind: map.marks[place] & KIND, isTwice: (map.marks[place] & TWICE) !== 0, isPointer: place === at, hex: message.hex(place),
+    form: message.decode(place).form,
+  }));
+  check(`each of the words that differ by ${reason}`, holds && sentence.endsWith("."), it);
 }
 
 /** What the text of a fact begins with, by the word that it is about. */
