@@ -2,7 +2,7 @@
 
 # Puts the completions of the current argument into COMPREPLY.
 _capvet() {
-  local commands="segments vet explain filter dump get check canon pack unpack help"
+  local commands="segments vet explain filter dump get check canon hash pack unpack help"
   local current=${COMP_WORDS[COMP_CWORD]} previous=${COMP_WORDS[COMP_CWORD - 1]}
   local command="" options="" places=0 file_at=0 ended="" word at
   COMPREPLY=()
@@ -27,10 +27,12 @@ _capvet() {
   case $command in
     "") options="--help --version" ;;
     segments) options="--packed --size --help" ;;
-    vet | explain) options="--packed --size --words --depth --strict --unamplified --exclusive --help" ;;
-    filter) options="--packed --size --words --depth --exclusive --strict --unamplified --allow-nonstrict --allow-amplified --pack --stop --help" ;;
-    dump | get | check | canon)
-      options="--packed --size --words --depth --strict --unamplified --help"
+    vet) options="--packed --size --words --depth --strict --unamplified --exclusive --one --json --help" ;;
+    explain) options="--packed --size --words --depth --strict --unamplified --exclusive --canonical --one --json --help" ;;
+    filter) options="--packed --size --words --depth --exclusive --strict --unamplified --allow-nonstrict --allow-amplified --pack --stop --one --help" ;;
+    check | hash) options="--packed --size --words --depth --strict --unamplified --one --json --help" ;;
+    dump | get | canon)
+      options="--packed --size --words --depth --strict --unamplified --one --help"
       ;;
     pack | unpack) options="--help" ;;
     help)
@@ -39,8 +41,11 @@ _capvet() {
       ;;
     *) return ;;
   esac
-  # `get` has its path before the file.
-  [[ $command != get ]] || file_at=1
+  # `get` has its path before the file. Some commands take any number of files.
+  case $command in
+    get) file_at=1 ;;
+    explain | hash) file_at=$places ;;
+  esac
   if [[ -z $ended && $current == -* ]]; then
     mapfile -t COMPREPLY < <(compgen -W "$options" -- "$current")
   elif [[ -z $command ]]; then

@@ -6,7 +6,7 @@ function __capvet_is
     contains -- "$words[2]" $argv
 end
 
-set -l vetting vet explain filter dump get check canon
+set -l vetting vet explain filter dump get check canon hash
 set -l reading segments $vetting
 set -l commands $reading pack unpack
 
@@ -21,6 +21,7 @@ complete -c capvet -n __fish_is_first_token -a dump -d 'Print the tree of each a
 complete -c capvet -n __fish_is_first_token -a get -d 'Print the node at a path in each accepted message'
 complete -c capvet -n __fish_is_first_token -a check -d 'Check that each message is canonical'
 complete -c capvet -n __fish_is_first_token -a canon -d 'Write the canonical copy of each message'
+complete -c capvet -n __fish_is_first_token -a hash -d 'Print the SHA-256 of the content of each message'
 complete -c capvet -n __fish_is_first_token -a pack -d 'Pack a stream of words'
 complete -c capvet -n __fish_is_first_token -a unpack -d 'Unpack a stream of words'
 complete -c capvet -n __fish_is_first_token -a help -d 'Print help of a command'
@@ -34,7 +35,10 @@ complete -c capvet -n "__capvet_is $vetting" -l words -x -d 'Maximum charge in w
 complete -c capvet -n "__capvet_is $vetting" -l depth -x -d 'Maximum level of an object'
 complete -c capvet -n "__capvet_is $vetting" -l strict -d 'Refuse a form that common readers reject'
 complete -c capvet -n "__capvet_is $vetting" -l unamplified -d 'Refuse a charge far above the words of the message'
+complete -c capvet -n "__capvet_is $vetting" -l one -d 'Demand that the input is exactly one message'
+complete -c capvet -n "__capvet_is vet explain check hash" -l json -d 'Print a JSON object for each message, one a line'
 complete -c capvet -n "__capvet_is vet explain filter" -l exclusive -d 'Refuse a message that uses a word twice'
+complete -c capvet -n "__capvet_is explain" -l canonical -d 'Say whether each accepted message is canonical, and why not'
 complete -c capvet -n "__capvet_is filter" -l allow-nonstrict -d 'Accept a form that common readers reject'
 complete -c capvet -n "__capvet_is filter" -l allow-amplified -d 'Accept a charge far above the words of the message'
 complete -c capvet -n "__capvet_is filter" -l pack -d 'Pack the output'

@@ -13,16 +13,17 @@ import sys
 import zipfile
 from email.utils import formatdate
 
+import adapters
 import licences
 import pages
-from packing import (BUILT, DIST, HERE, TOP, compress, copy_program, copy_tracked, debian_version, digest, entries, install, is_file, run,
-                     shared, version)
+from packing import (BUILT, CRATES, DIST, HERE, TOP, compress, copy_program, copy_tracked, debian_version, digest, entries, install, is_file,
+                     run, shared)
 
 # Who packs it. (No mail reaches a domain `invalid`.)
 MAINTAINER = os.environ.get("MAINTAINER", "The owner of the repository <owner@capvet.invalid>")
 # Files of debian/NAME that have another place in the package than DEBIAN/.
 DESCRIPTIONS = ("control", "install", "overrides")
-CRATES, GOCODE = "usr/share/cargo/registry", "usr/share/gocode/src/capvet.invalid/capvet"
+REGISTRY, GOCODE = "usr/share/cargo/registry", "usr/share/gocode/src/capvet.invalid/capvet"
 
 
 def stage(root, machine, guard, wheel):
@@ -30,8 +31,8 @@ def stage(root, machine, guard, wheel):
     libraries = f"usr/lib/{machine.name}-linux-gnu"
     install(root, machine.folder / "capvet", machine.folder / "libcapvet.a", "PREFIX=/usr", f"libdir=/{libraries}",
             "zshdir=/usr/share/zsh/vendor-completions")
-    shared(machine, root / libraries / "libcapvet.so.1")
-    (root / libraries / "libcapvet.so").symlink_to("libcapvet.so.1")
+    shared(machine, root / libraries / "libcapvet.so.2")
+    (root / libraries / "libcapvet.so").symlink_to("libcapvet.so.2")
     if guard:
         copy_program(guard, root / "usr/bin/capvet-guard")
         copy_tracked(root / "usr/lib/systemd/system", "guard/systemd", below="guard/systemd")
@@ -43,7 +44,7 @@ def stage(root, machine, guard, wheel):
         # (what runs needs only the part of cffi that python3-cffi-backend has, of which pip knows nothing)
         metadata = next(root.glob("usr/lib/python3/dist-packages/*.dist-info/METADATA"))
         metadata.write_text(re.sub(r"^Requires-Dist: cffi.*\n", "", metadata.read_text(), flags=re.M))
-    crates(root / CRATES)
+    crates(root / REGISTRY)
     copy_tracked(root / GOCODE, "bindings/go", below="bindings/go")
     if (BUILT / "inspector.html").is_file():
         (root / "usr/share/capvet").mkdir()
@@ -55,13 +56,26 @@ def stage(root, machine, guard, wheel):
 
 
 def crates(registry):
-    """The crates, as cargo's folder of crates has them: each with a list of sums, and with versions in place of paths."""
-    for folder, name in (("rust", "capvet"), ("rust-capnp", "capvet_capnp"), ("rust-capnp-rpc", "capvet_capnp_rpc")):
-        crate = registry / f"{name}-{version()}"
-        copy_tracked(crate, f"bindings/{folder}", below=f"bindings/{folder}")
-        manifest = crate / "Cargo.toml"
-        manifest.write_text(re.sub(r'\{ path = "\.\./[\w-]+" \}', f'"{version()}"', manifest.read_text()))
-        (crate / ".cargo-checksum.json").write_text('{"files":{}}\n')
+    """The crates, as cargo's folder of crates has them. The versions of an adapter have one source, in the folder of the newest."""
+    for folder in CRATES:
+        # (the documentation of a crate may begin with its README)
+        parts = [f"{folder}/src", *[f"{folder}/README.md"] * (TOP / folder / "README.md").exists()]
+        copy_tracked(add_crate(registry, (TOP / folder / "Cargo.toml").read_text()), *parts, below=folder)
+    for folder, _, _ in adapters.ADAPTERS:
+        *older, newest = (add_crate(registry, (TOP / folder / minor / "Cargo.toml").read_text()) for minor in adapters.MINORS)
+        copy_tracked(newest, f"{folder}/src", below=folder)
+        for crate in older:
+            (crate / "src").symlink_to(f"../{newest.name}/src")
+
+
+def add_crate(registry, manifest):
+    """Makes the folder of a crate, with a list of sums. Its manifest names other crates by their versions, and by no path."""
+    name, number = (re.search(rf'^{field} = "(.*)"$', manifest, re.M)[1] for field in ("name", "version"))
+    crate = registry / f"{name}-{number}"
+    crate.mkdir(parents=True)
+    (crate / "Cargo.toml").write_text(re.sub(r', path = "[^"]*"', "", manifest).replace('"../src/lib.rs"', '"src/lib.rs"'))
+    (crate / ".cargo-checksum.json").write_text('{"files":{}}\n')
+    return crate
 
 
 def needed_libc(files):

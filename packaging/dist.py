@@ -1,11 +1,12 @@
 #!/usr/bin/env python3
 """Packs what is built into dist/: for x86-64 and arm64 an archive for any Linux and Debian packages, a repository of these for apt,
-the wheels and the source distribution for Python, the package for JavaScript, and the module for WebAssembly.
+the wheels and the source distribution for Python, the package for JavaScript, the module for WebAssembly, and a zip for Windows.
 
-    dist.py [--without-guard]
+    dist.py [--without-guard | --any-go]
 
 It runs in a clone whose files are all committed, after `make build`. It builds the targets of targets.py and the guard if their
-tools are there, and names what it leaves out. The kit of `rt` links the shared libraries, and has the licences of what is linked
+tools are there, and names what it leaves out. It packs no guard by a Go that verifies certificates by keys of any size, but with
+--any-go, for tests: the guard bounds these keys itself. The kit of `rt` links the shared libraries, and has the licences of what is linked
 in. No file in dist/ says where it was made, or when: times are that of the commit, or SOURCE_DATE_EPOCH. SHA256SUMS has the sums of
 all other files. BUILT has those of the programs and the libraries in them, with the commit and the line of the toolchain. README.md
 is the page on installation.
@@ -24,6 +25,7 @@ import linux
 import pages
 import targets
 import wheels
+import windows
 from licences import GOCODE
 from packing import BUILT, DIST, HERE, MACHINES, digest, run, shared, version, when
 
@@ -36,14 +38,17 @@ def can_build(names):
     return not lacking and targets.main(list(names)) == 0
 
 
-def can_build_guard():
-    """Whether Go and its libraries are there, and the licences of these."""
+def can_build_guard(is_any_go):
+    """Whether Go and its libraries are there, and the licences of these. The Go has to bound the keys of certificates, or may be any."""
     libraries = {"golang-github-prometheus-client-golang-dev": "prometheus/client_golang",
                  "golang-github-coreos-go-systemd-dev": "coreos/go-systemd", "golang-github-pires-go-proxyproto-dev": "pires/go-proxyproto"}
     lacking = [it for it, tool in (("golang-go", "go"), ("dpkg", "dpkg")) if not shutil.which(tool)]
     lacking += [it for it, place in libraries.items() if not (GOCODE / "src/github.com" / place).is_dir()]
     if lacking:
         print(f"dist: capvet-guard isn't packed: install {' '.join(lacking)}")
+    elif not is_any_go and not guards.is_bounded(run("go", "version")):
+        print(f"dist: capvet-guard isn't packed: {guards.UNBOUNDED}")
+        return False
     return not lacking
 
 
@@ -56,25 +61,26 @@ def inspector():
         shutil.copyfile(BUILT / "inspector.html", DIST / f"capvet-inspector-{version()}.html")
 
 
-def sums(machines, made_guards):
+def sums(machines, made_guards, plain_builds):
     """The lines of BUILT: the commit, the toolchain, and the sums of the programs and libraries in the packages."""
     lines = [f"commit {run('git', 'rev-parse', 'HEAD').strip()}", f"toolchain {run('rt', 'version').strip()}"]
     with tempfile.TemporaryDirectory() as scratch:
         for machine in machines:
             library = Path(scratch) / f"{machine.name}.so"
             shared(machine, library)
-            files = machine.built() | {f"{machine.name}/libcapvet.so.1": library}
+            files = machine.built() | {f"{machine.name}/libcapvet.so.2": library}
             files |= {f"{machine.name}/{path.name}": path for path in made_guards.get(machine, ())}
             lines += [f"{digest(file)}  {name}" for name, file in files.items()]
     if (DIST / f"capvet-{version()}.wasm").is_file():
         lines.append(f"{digest(BUILT / 'capvet.wasm')}  capvet.wasm")
+    lines += [f"{digest(file)}  {file.parent.name}/{file.name}" for file in plain_builds]
     return "".join(f"{line}\n" for line in lines)
 
 
 def pack(machines, made_guards, epoch):
     """Packs for all machines what is built."""
-    built, made_wheels = sums(machines, made_guards), wheels.build(machines, epoch)
-    javascript.build(epoch)
+    plain_builds = [*javascript.build(epoch), *windows.build(epoch)]
+    built, made_wheels = sums(machines, made_guards, plain_builds), wheels.build(machines, epoch)
     (DIST / "BUILT").write_text(built)
     common = [("wasm", file) for file in DIST.glob("*.wasm")] + [("python", file) for file in DIST.glob(f"capvet-{version()}.tar.gz")]
     common += [("js", file) for file in DIST.glob("*.tgz")]
@@ -98,7 +104,7 @@ def main(words):
     if can_build(["wasm"]):
         shutil.copyfile(BUILT / "capvet.wasm", DIST / f"capvet-{version()}.wasm")
         inspector()
-    with_guard = "--without-guard" not in words and can_build_guard()
+    with_guard = "--without-guard" not in words and can_build_guard("--any-go" in words)
     made_guards = {it: (guards.guard(it, False), guards.guard(it, True)) for it in machines if with_guard}
     pack(machines, made_guards, when())
     pages.readme(DIST)

@@ -3,12 +3,26 @@
 What was built of the same sources and archive is kept."""
 import hashlib
 import os
+import re
 
 from packing import BUILT, TOP, run, tracked
 
 PLAIN = '-buildmode=pie -ldflags "-s -w -buildid= -linkmode external -extldflags=-Wl,-z,now"'
 STATIC = '-tags netgo,osusergo -ldflags "-s -w -buildid= -linkmode external -extldflags -static"'
 SOURCES = ("guard", "bindings/go", "include", "Makefile", "capvet.pc.in", "packaging/guards.py")
+
+# The first Go of each line that bounds the keys of certificates before it verifies by them (CVE-2023-29409). Later lines do.
+FIRST_BOUNDED = {(1, 19): 12, (1, 20): 7}
+UNBOUNDED = "put Go 1.19.12, 1.20.7 or later on the path, since older ones verify certificates by keys of any size"
+
+
+def is_bounded(text):
+    """Whether what `go version` prints is of a Go that bounds the keys of certificates."""
+    found = re.search(r"\bgo(\d+)\.(\d+)(?:\.(\d+))?", text)
+    if not found:
+        return False
+    line, patch = (int(found[1]), int(found[2])), int(found[3] or 0)
+    return line > max(FIRST_BOUNDED) or patch >= FIRST_BOUNDED.get(line, patch + 1)
 
 
 def stamp(archive):

@@ -62,7 +62,12 @@ def of_go():
     folders = [it for it in with_guard if it.startswith(str(GOCODE))]
     owners = run("dpkg", "-S", *folders)
     names += sorted({owner for line in owners.splitlines() for owner in line.rpartition(": ")[0].split(", ")})
-    return {name: Path(f"/usr/share/doc/{name}/copyright").read_text() for name in names}
+    return of_debian(names)
+
+
+def of_debian(packages):
+    """The `copyright` files of Debian packages, by their names."""
+    return {name: Path(f"/usr/share/doc/{name}/copyright").read_text() for name in packages}
 
 
 def copyright_of(package):

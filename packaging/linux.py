@@ -37,7 +37,7 @@ def archive(scratch, machine, guard, others, built, epoch):
     root = scratch / f"capvet-{version()}-{machine.name}-linux"
     install(scratch / "stage", machine.static(), machine.folder / "libcapvet.a", f"PREFIX={STAGED}")
     shutil.move(scratch / f"stage{STAGED}", root)
-    shared(machine, root / "lib/libcapvet.so.1")
+    shared(machine, root / "lib/libcapvet.so.2")
     relocate(root)
     if guard:
         copy_program(guard, root / "bin/capvet-guard")

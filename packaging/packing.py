@@ -15,9 +15,10 @@ from targets import BUILT, KIT, TOP
 
 HERE, DIST = TOP / "packaging", TOP / "dist"
 # What is linked into the program or the library, by its name in the kit. (The kit has no licence for its own libraries.)
-LINKED = ("arrayvec", "byteorder", "clap", "hex", "itoa", "strsim", "thiserror")
-# The bindings that are built from their sources.
-BINDINGS = ("bindings/go", "bindings/rust", "bindings/rust-capnp", "bindings/rust-capnp-rpc")
+LINKED = ("arrayvec", "byteorder", "clap", "hex", "itoa", "sha2", "strsim", "thiserror")
+# The crates for Rust, and what is built from its sources by who uses it.
+CRATES = ("rust/core", "rust/capvet")
+BINDINGS = ("bindings/go", *CRATES, "rust/capvet-capnp", "rust/capvet-capnp-rpc")
 
 
 class Machine(NamedTuple):
@@ -69,7 +70,7 @@ def version_text():
 
 
 def debian_version():
-    """The version of Debian's packages: 1.1.0~dev is before 1.1.0 there."""
+    """The version of Debian's packages: 2.0.0~dev is before 2.0.0 there."""
     return version_text().replace("-", "~")
 
 
@@ -94,9 +95,9 @@ def shared(machine, file):
     """Links the objects of an archive into a shared library that exports the calls of the header and nothing else."""
     with tempfile.TemporaryDirectory() as folder:
         exports = Path(folder) / "exports"
-        exports.write_text(f"CAPVET_1 {{ global: {'; '.join(calls())}; local: *; }};\n")
+        exports.write_text(f"CAPVET_2 {{ global: {'; '.join(calls())}; local: *; }};\n")
         run(str(KIT / "toolchain/bin/ld.lld"), "-shared", "--whole-archive", str(machine.folder / "libcapvet.a"),
-            "--no-whole-archive", str(machine.libc), "-soname", "libcapvet.so.1", "--version-script", str(exports), "--no-undefined",
+            "--no-whole-archive", str(machine.libc), "-soname", "libcapvet.so.2", "--version-script", str(exports), "--no-undefined",
             "-z", "noexecstack", "-z", "relro", "-z", "now", "--build-id=none", "--hash-style=gnu", "--strip-all", "-o", str(file))
     file.chmod(0o644)
 

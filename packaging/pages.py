@@ -11,7 +11,7 @@ import sys
 from packing import HERE, TOP, copy_tracked, version
 
 # The pages for users, and those that only the archive has. (A page that isn't there yet is left out)
-PAGES = ("install", "guide", "service", "in-process", "output", "format", "c", "go", "python", "scale", "proofs", "glossary")
+PAGES = ("install", "guide", "inspector", "service", "in-process", "output", "format", "c", "cpp", "rust", "go", "python", "scale", "proofs", "glossary")
 OF_ARCHIVE = ("js",)
 # The version of crates that Debian's examples ask for.
 MINOR = version().rpartition(".")[0]
@@ -33,9 +33,10 @@ SAID = {
         ("venv/bin/python", "python3"),
         ("../bindings/go", "/usr/share/gocode/src/capvet.invalid/capvet"),
         ("man ./docs/capvet-guard.1", "man capvet-guard"),
-        ("in `bindings/rust-capnp`", "in the package `librust-capvet-capnp-dev`"),
-        ("in `bindings/rust-capnp-rpc`", "in the package `librust-capvet-capnp-rpc-dev`"),
-        ("by `capvet = { path = \"capvet/bindings/rust\" }`", f"by `capvet = \"{MINOR}\"` and [Debian's folder of crates](../README.md)"),
+        ("in `rust/capvet-capnp`", "in the package `librust-capvet-capnp-dev`"),
+        ("in `rust/capvet-capnp-rpc`", "in the package `librust-capvet-capnp-rpc-dev`"),
+        ("`capvet_capnp = { path = \"capvet/rust/capvet-capnp/0.27\" }`", "`capvet_capnp = \"0.27\"`"),
+        ("by `capvet = { path = \"capvet/rust/capvet\" }`", f"by `capvet = \"{MINOR}\"` and [Debian's folder of crates](../README.md)"),
     ),
 }
 # The same for the page on JavaScript.
@@ -44,10 +45,11 @@ SAID_OF_JS = (
     ("`build.mjs` puts the package into a folder", "npm puts the package into a folder"),
     ("make build TARGET=wasm\nnode bindings/js/build.mjs build/capvet.wasm hello/node_modules/capvet\n",
      "mkdir hello\nnpm install --silent --offline --prefix hello ./js/capvet-@version@.tgz\n"),
-    (" `tests/js.py` prints them. With `--idle` it fails if a call takes more than three times the time from C, or seven times for the list.", ""),
+    (" `tests/js.py` prints them. With `--idle` it fails if a call takes more than three times the time from C, or nine times for the list.", ""),
 )
-# A crate of the checkout as an example names it. On Debian it has a version, by which `cargo` finds it in Debian's folder of crates.
-CRATE = re.compile(r'\{ path = "[./]*/bindings/[\w-]*" \}')
+# A crate of the checkout as an example names it. On Debian it has a version, by which `cargo` finds it in Debian's folder of crates:
+# that of the folder, for an adapter to `capnp`, and else MINOR.
+CRATE = re.compile(r'\{ path = "[./]*/rust/[\w-]*/?([\d.]*)" \}')
 CARGO = """\
 [source.crates-io]
 replace-with = "debian"
@@ -88,7 +90,7 @@ def linked(folder, page):
 def examples_of_debian(folder):
     """Lets the examples take the crates and the Go package from where Debian has them."""
     for file in folder.glob("rust/**/Cargo.toml"):
-        file.write_text(CRATE.sub(f'"{MINOR}"', file.read_text()))
+        file.write_text(CRATE.sub(lambda it: f'"{it[1] or MINOR}"', file.read_text()))
     (folder / "rust/.cargo").mkdir()
     (folder / "rust/.cargo/config.toml").write_text(CARGO)
     go = folder / "go/go.mod"

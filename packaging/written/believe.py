@@ -1,6 +1,7 @@
-"""Writes docs/believe.md: the definitions that the library's promises rest on, in one order, each before its first use.
+"""Writes docs/accepted.md and docs/believe.md: the definitions that the library's promises rest on, in one order over both pages, each
+before its first use.
 
-A line of the template in braces is replaced by a copy from the sources:
+A line of a template in braces is replaced by a copy from the sources:
 
     {define CRATE FILE: NAMES}     definitions of a file of specs
     {type CRATE NAME: CLAUSES}     a type of the code, with these clauses that are proved of each value, and the names of its others
@@ -12,27 +13,35 @@ A line of the template in braces is replaced by a copy from the sources:
     {unmet CRATE FILE NAME}        the same of a definition of the page that no example cites
     {alias FILE NAME}              a name that a file itself gives to what it imports, which the line explains
     {law NAME}                     the name of a law
-    {part NAME}                    a link to the part of this heading, by its number
+    {part NAME}                    a link to the part of this heading, by its number, on this page or on the one before
     {counts}, {safe}, ..           numbers of lines
 
 The headings of the template have no numbers: they are counted here. A name that is cited before it is defined is an error, and so is one of Rust or a library, a part of a value or a sign that
-the first part doesn't explain. So is a name that a file gives to an import, without a line that explains it. A definition
-that nothing on the page cites is an error too, and a name of a library in the first part that nothing uses.
+the first part of either page doesn't explain. So is a name that a file gives to an import, without a line that explains it. A definition
+that nothing on the pages cites is an error too, and a name of a library in the first part of a page that nothing on it uses.
 """
 import re
+from pathlib import PurePath
 
 from names import Names
 from source import CRATES, chunk_with, contract, declared, dedent, functions, rattle, renamed, spec, statement
 
-# Parts of the page up to which each claim has to be read.
+# Parts of the pages up to which each claim has to be read.
 READINGS = {"safe": "A tree, and an accepted message", "fault": "The contract of vet", "library": "The canonical form",
             "all": "Exclusive messages"}
 # What is proved of each value of a type, without how.
 GHOST = re.compile(r"^    (ghost (\w+): \{(?:[^{}]|\{[^{}]*\})*\})(?: by \{[^{}]*\})?,\n", re.M)
 
 
+def both(templates):
+    """The texts of both pages, by their names. The second goes on from the first."""
+    first = Page(templates["accepted.md"])
+    texts = {"accepted.md": first.write()}
+    return texts | {"believe.md": Page(templates["believe.md"], first).write()}
+
+
 class Page:
-    def __init__(self, template):
+    def __init__(self, template, before=None):
         headings = re.findall(r"^## (.*)$", template, re.M)
         self.numbers = {name: number for number, name in enumerate(headings, 1)}
         notation = template.partition(f"## {headings[0]}\n")[2].partition("\n## ")[0]
@@ -40,7 +49,10 @@ class Page:
         self.names = Names(" ".join(term for row in rows for term in re.findall(r"`([^`]+)`", row)))
         self.template, self.errors, self.out, self.shown, self.parts = template, self.names.errors, [], None, []
         # (the names of each definition, and those that examples cite)
-        self.defined, self.met = {}, set()
+        self.defined, self.met, self.before = {}, set(), before
+        if before:
+            self.names.go_on(before.names)
+            self.defined |= before.defined
 
     def count(self, kind, text):
         """Adds the lines of a text to those of the part, without comments and empty ones."""
@@ -149,17 +161,20 @@ class Page:
     def part(self, *words):
         """A link to a part of the page."""
         name = " ".join(words)
-        if name not in self.numbers:
+        is_here = name in self.numbers
+        numbers = self.numbers if is_here or not self.before else self.before.numbers
+        if name not in numbers:
             self.errors.append(f"the page has no part {name}")
             return name
-        number = self.numbers[name]
+        number = numbers[name]
         anchor = re.sub(r"[^\w -]", "", f"{number}. {name}".lower()).replace(" ", "-")
-        return f"[part {number}](#{anchor})"
+        return f"[part {number}](#{anchor})" if is_here else f"[part {number} of the first page](accepted.md#{anchor})"
 
     def counts(self):
-        """The table of the lines of each part."""
+        """The table of the lines of each part, of both pages."""
         rows, read = ["| Part | Definitions | Up to here | Types | Clauses | Examples |", "|---|---|---|---|---|---|"], 0
-        for part in self.parts:
+        before = [part | {"title": f"First page, {part['title']}"} for part in self.before.parts]
+        for part in [*before, *self.parts]:
             read += part["lines"]
             if any(part[kind] for kind in ("lines", "clauses", "examples")):
                 cells = [part["title"], part["lines"], read, part["types"], part["clauses"], part["examples"]]
@@ -179,6 +194,7 @@ class Page:
         for line in self.template.split("\n"):
             if line.startswith("## "):
                 line = f"## {self.numbers[line[3:]]}. {line[3:]}"
+                self.shown = None
                 self.parts.append({"title": line[3:], "lines": 0, "types": 0, "clauses": 0, "examples": 0})
             if re.fullmatch(r"\{(define|type|member|contract|example|counts)\b.*\}", line):
                 self.out += self.directive(line)
@@ -186,10 +202,15 @@ class Page:
                 named = re.sub(r"\{(name|unmet|alias|law|part) [\w /.,]+\}", lambda found: self.directive(found[0]), line)
                 self.out.append(named)
         text = "\n".join(self.out)
+        parts = [*(self.before.parts if self.before else ()), *self.parts]
+        titles = [part["title"].partition(". ")[2] for part in parts]
         for reading, last in READINGS.items():
-            lines = sum(part["lines"] for part in self.parts[:self.numbers[last]])
-            text = text.replace(f"{{{reading}}}", str(lines))
-        self.errors += [f"nothing on the page cites {what}" for what, own in self.defined.items() if not own & self.names.cited]
+            if last in titles:
+                lines = sum(part["lines"] for part in parts[:titles.index(last) + 1])
+                text = text.replace(f"{{{reading}}}", str(lines))
+        # (what the first page defines may be cited on the second alone)
+        if self.before:
+            self.errors += [f"nothing on the pages cites {what}" for what, own in self.defined.items() if not own & self.names.cited]
         self.names.unused()
         if self.errors:
             raise LookupError("\n".join(self.errors))
@@ -202,7 +223,15 @@ class Page:
             del self.out[-2:]
             return ["", *text.split("\n"), "```"]
         self.shown = file
-        return [f"`{file}`:", "", "```", *text.split("\n"), "```"]
+        return [f"`{file}`{in_coq(file)}:", "", "```", *text.split("\n"), "```"]
+
+
+def in_coq(file):
+    """A link to the same definitions in Coq, where there are any."""
+    stem = PurePath(file).stem
+    mirror = f"mirror/coq/definitions/{'Declared' if stem == 'lib' else stem}.v"
+    is_there = re.match("crates/cap_spec/(specs|src)/", file) and (CRATES.parent / mirror).exists()
+    return f" ([in Coq](../{mirror}))" if is_there else ""
 
 
 def flat(text):

@@ -14,10 +14,18 @@ class Names:
     """What the page has so far: the words of its code, its types, and their parts. Its first part explains `notation`."""
 
     def __init__(self, notation):
-        self.notation, self.errors = notation, []
+        self.notation, self.errors, self.before = notation, [], None
         self.words, self.types, self.fields = set(), set(), set()
         # (all as triples, but the names that a file gives to its imports: the file and the name)
         self.known, self.cited, self.aliases = set(), set(), set()
+
+    def go_on(self, before):
+        """The page goes on from another one, whose names are known."""
+        self.before = before
+        self.types |= before.types
+        self.fields |= before.fields
+        self.known |= before.known
+        self.cited |= before.cited
 
     def show(self, text):
         """A text is on the page from now on."""
@@ -68,7 +76,8 @@ class Names:
     def explain(self, what, word):
         """The first part has this name or sign."""
         start, end = (r"(?<!\w)" if word[0].isalnum() else ""), (r"(?!\w)" if word[-1].isalnum() else "")
-        if not re.search(start + re.escape(word) + end, self.notation):
+        explained = self.notation if self.before is None else f"{self.notation} {self.before.notation}"
+        if not re.search(start + re.escape(word) + end, explained):
             self.errors.append(f"{what} uses {word.strip()}, which the notation doesn't explain")
 
     def unused(self):

@@ -1,4 +1,4 @@
-"""Writes docs/promises.md: the public functions with their promises, the laws, and the files of definitions under them.
+"""Writes docs/internals/promises.md: the public functions with their promises, the laws, and the files of definitions under them.
 
 A promise is the first sentence of its function's comment, or the one that sentences.txt has for it. In the template:
 
@@ -75,7 +75,7 @@ class Page:
         return lines
 
     def definitions(self):
-        believed = (SENTENCES.parent / "believe.md.in").read_text()
+        believed = "".join((SENTENCES.parent / f"{name}.md.in").read_text() for name in ("accepted", "believe"))
         rows = ["| Folder | Lines | Files |", "|---|---|---|"]
         lines = self.cited()
         for crate in sorted({crate for crate, _ in lines}):

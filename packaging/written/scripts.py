@@ -26,7 +26,7 @@ TARGETS = ("tests/fuzz/calls.c", "tests/fuzz/vetted.cpp", "tests/fuzz/streams.cp
 OF_ALL = (r"(?:The last line(?: of the output)? is 'N passed, [^']*'|Failures are printed as they come|A case is one call of"
           r"|What isn't installed is said|What a machine has no (?:tool|compiler) for is said)[^.]*\.\s*")
 # Words of a comment that are code on a page.
-OPTION_OR_FILE = re.compile(r"`[^`]*`|(?<![\w./-])(?:--[a-z][\w-]*|[\w./-]+\.(?:py|md|c|cpp|mjs|h|rt|txt)|(?:tests|include|bindings|guard|build|crates|examples)/[\w/.-]*\w|\w+\(\))(?![\w/])")
+OPTION_OR_FILE = re.compile(r"`[^`]*`|(?<![\w./-])(?:--[a-z][\w-]*|[\w./-]+\.(?:py|md|c|cpp|mjs|h|rt|txt)|(?:tests|include|bindings|rust|guard|build|crates|examples)/[\w/.-]*\w|\w+\(\))(?![\w/])")
 
 
 def docstring(file):

@@ -1,6 +1,6 @@
 #!/usr/bin/env python3
-"""Writes the pages that are made from the sources: docs/believe.md, docs/promises.md and docs/internals/tests.md. In docs/proofs.md
-it writes what the prover reported of the program and of the archive, if build/ was proved here.
+"""Writes the pages that are made from the sources: docs/accepted.md and docs/believe.md, and in docs/internals promises.md, clauses.md
+and tests.md. In docs/proofs.md it writes what the prover reported of the program and of the archive, if build/ was proved here.
 
     write.py [--check]
 
@@ -11,12 +11,13 @@ import sys
 from pathlib import Path
 
 import believe
+import clauses
 import promises
 import scripts
 from source import TOP
 
 HERE = Path(__file__).resolve().parent
-PAGES = {"believe.md": believe.Page, "promises.md": promises.Page, "internals/tests.md": scripts.Page}
+PAGES = {"internals/promises.md": promises.Page, "internals/clauses.md": clauses.Page, "internals/tests.md": scripts.Page}
 
 
 def with_reports(text):
@@ -27,9 +28,15 @@ def with_reports(text):
     return text
 
 
+def definitions():
+    """The templates of both pages of definitions, by the names of the pages."""
+    return {name: (HERE / f"{name}.in").read_text() for name in ("accepted.md", "believe.md")}
+
+
 def stale():
     """The pages that aren't what they should be: each with its text."""
     texts = {TOP / "docs" / name: page((HERE / f"{Path(name).name}.in").read_text()).write() for name, page in PAGES.items()}
+    texts |= {TOP / "docs" / name: text for name, text in believe.both(definitions()).items()}
     texts[TOP / "docs/proofs.md"] = with_reports((TOP / "docs/proofs.md").read_text())
     return {file: text for file, text in texts.items() if not file.exists() or file.read_text() != text}
 
