@@ -57,7 +57,7 @@ def by_program(args, folder):
         (folder / f"{at}-{COPIES}").write_bytes(COPIES * message)
         rows += [(name, len(message), command, copies, bench.Timed(name, f"PROGRAM {command} {options} FILE", statuses=(0, 1)), at)
                  for command in COMMANDS for options, copies in (("", 1), ("--unamplified", COPIES))]
-    programs, seconds = {"PROGRAM": args.program}, [[] for _ in rows]
+    programs, seconds = {"PROGRAM": [args.program]}, [[] for _ in rows]
     for _ in range(args.rounds):
         for taken, (*_, copies, timed, at) in zip(seconds, rows):
             empty, _ = bench.run(timed, programs, folder / "empty")

@@ -2,7 +2,7 @@
 """Times the built program beside plain copying of the same bytes, and beside Cap'n Proto's own C++ library and
 Rust crate where they are installed, and prints a table.
 
-    bench.py [--rounds N] [--only WORD] [--program PATH] [--write]
+    bench.py [--rounds N] [--only WORD] [--program PATH] [--write | --peers ROOT]
 
 The inputs are generated in a temporary folder. In each round every command runs once, in turn, so that
 a busy machine slows them alike; the table has the median of the rounds. MiB, MB/s and `ratio`, against `dd`
@@ -12,6 +12,10 @@ program that it starts inherits. `peer` is capvet's seconds over those of the fa
 the same job. They don't do just the same work: the programs in peers/ say what differs. `capvet vet --strict` has
 --unamplified too, as `capvet filter` has by itself.
 
+With --peers the two libraries are those of a root of another release of Debian, which `tests/releases.py --roots FOLDER` makes: the
+peers are built in it, and run on this machine with the C library of the root. It needs the superuser. Code of a newer crate may not
+be built: then a line says why.
+
 With --write the table and the machine also go into docs/internals/speed.md, between the marks there, and the column `peer` into
 docs/speed.svg as a chart. All rows have to run for this, beside both libraries.
 """
@@ -20,6 +24,8 @@ import multiprocessing
 import os
 import platform
 import random
+import re
+import shlex
 import shutil
 import statistics
 import struct
@@ -33,6 +39,9 @@ from pathlib import Path
 import chart
 
 TOP = Path(__file__).resolve().parent.parent
+sys.path.append(str(TOP / "tests"))
+import fresh_roots  # noqa: E402 (it is in the folder that the line above names)
+
 MIB = 1 << 20
 
 
@@ -276,8 +285,10 @@ def apart(job, *arguments):
         sys.exit(f"{job.__name__} failed")
 
 
-def why_not_built(words, folder):
+def why_not_built(words, folder, root=None):
     """Builds a program by a command in a folder, and gives None; or why it can't be built, in a few words."""
+    if root is not None:
+        return why_not_built_in(root, words, folder)
     if shutil.which(words[0]) is None:
         return f"{words[0]} isn't there"
     done = subprocess.run(words, cwd=folder, stdout=subprocess.DEVNULL, stderr=subprocess.PIPE, text=True)
@@ -287,16 +298,38 @@ def why_not_built(words, folder):
     return lines[0] if lines else f"{words[0]} ended with status {done.returncode}"
 
 
-def build_peers(names, folder):
-    """The paths of the programs of these names. A peer that can't be built is left out, and a line says why."""
+# What prints the versions of both libraries in a root.
+VERSIONS = "dpkg-query -W -f '${Package} ${Version}, ' libcapnp-dev librust-capnp-dev g++ rustc"
+
+
+def why_not_built_in(root, words, there):
+    """The same in a root of another release, over its version of the crate."""
+    manifest = there / "Cargo.toml"
+    if manifest.is_file():
+        manifest.write_text(re.sub(r"^capnp = .*", 'capnp = "*"', manifest.read_text(), flags=re.M))
+    script = f"cd /mnt && exec env HOME=/mnt {shlex.join(words)} 2>&1"
+    text, status = fresh_roots.session(root, there.parent / "layer", script, f"mount --bind '{there}' \"$merged/mnt\"")
+    lines = [it.strip() for it in text.splitlines() if "error" in it]
+    return None if status == 0 else lines[0] if lines else f"{words[0]} ended with status {status}"
+
+
+def build_peers(names, folder, root=None):
+    """The commands of the programs of these names. A peer that can't be built is left out, and a line says why."""
     sources = Path(__file__).resolve().parent / "peers"
+    # (the loader of the root takes its libraries)
+    loader = [] if root is None else [f"{root}/lib64/ld-linux-x86-64.so.2", "--library-path", f"{root}/usr/lib/x86_64-linux-gnu"]
     built = {}
     for name in names:
         peer = PEERS[name]
         there = shutil.copytree(sources / peer.folder, Path(folder) / "peers" / peer.folder)
-        reason = why_not_built(peer.build.split(), there)
+        words = peer.build.split()
+        reason = why_not_built(words, there, root)
+        if reason and (there / "walk-sizes.rs").is_file():
+            # (in `capnp` 0.27 the calls of the other walk are private)
+            shutil.copy(there / "walk-sizes.rs", there / "src/walk.rs")
+            reason = why_not_built(words, there, root)
         if reason is None:
-            built[name] = str(there / peer.program)
+            built[name] = [*loader, str(there / peer.program)]
         else:
             print(f"without the rows of {name}: {reason}", flush=True)
     return built
@@ -304,7 +337,7 @@ def build_peers(names, folder):
 
 def run(timed, programs, file):
     """Seconds, and the largest resident size in KiB. A command that ends with another status ends the run."""
-    words = [programs[it] if it in programs else it.replace("FILE", str(file)) for it in timed.words.split()]
+    words = [part for it in timed.words.split() for part in programs.get(it, [it.replace("FILE", str(file))])]
     if timed.piped:
         words = ["sh", "-c", '"$0" "$@" | cat', *words]
     null = os.open(os.devnull, os.O_WRONLY)
@@ -326,11 +359,14 @@ def options():
     parser.add_argument("--only", default="", help="run the rows whose name or input has this word")
     parser.add_argument("--program", default=str(TOP / "build/capvet"))
     parser.add_argument("--write", action="store_true", help="write docs/internals/speed.md and docs/speed.svg")
+    parser.add_argument("--peers", type=Path, help="a root of another release of Debian, for the two libraries")
     args = parser.parse_args()
     if not Path(args.program).is_file():
         sys.exit(f"{args.program} isn't there: build it by `make build`")
     if args.write and args.only:
         sys.exit("--write takes all rows, and so no --only")
+    if args.write and args.peers:
+        sys.exit("--write takes the libraries of this machine, and so no --peers")
     return args
 
 
@@ -424,10 +460,12 @@ def main():
     chosen = choose(args.only)
     with tempfile.TemporaryDirectory() as folder:
         expected = [name for name in PEERS if any(it.timed.peer == name for it in chosen)]
-        built = build_peers(expected, folder)
+        built = build_peers(expected, folder, args.peers)
+        if args.peers:
+            print(fresh_roots.session(args.peers, Path(folder) / "layer", VERSIONS)[0].rstrip(", "), flush=True)
         if args.write and len(built) < len(PEERS):
             sys.exit("--write takes both libraries")
-        programs = built | {"PROGRAM": args.program}
+        programs = built | {"PROGRAM": [args.program]}
         chosen = [it for it in chosen if it.timed.peer is None or it.timed.peer in programs]
         files = make_files(args.program, chosen, folder)
         results = measure(chosen, programs, files, args.rounds)

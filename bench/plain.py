@@ -5,10 +5,10 @@
 
 Of each call over each input the table has the milliseconds of the text without contracts, those of the proved library, and the
 ratio. They are the least of N rounds in each of three processes, in turn. With --instructions the columns have instructions instead,
-in thousands, which valgrind counts; these stay the same on a busy machine. `vet` to `pack_message` get each message of a file, and
-`pack` and `unpack` the words of the whole file at once. The inputs are those of bench.py, of the sizes that SIZES has for
-instructions, and two samples of examples/. The crate is built in cargo's profile `release` by the Rust of the path. peers/plain says
-what is timed.
+in thousands, which valgrind counts; these stay the same on a busy machine. `vet` to `pack_message` get each message of a file,
+`unpack_message` the packed text of each, and `pack` and `unpack` the words of the whole file at once. The inputs are those of
+bench.py, of the sizes that SIZES has for instructions, and two samples of examples/. The crate is built in cargo's profile
+`release` by the Rust of the path. peers/plain says what is timed.
 """
 import argparse
 import os
@@ -26,7 +26,7 @@ from nodes import instructions, run
 SAMPLES = ("contacts.bin", "telemetry.bin")
 # Sizes of inputs for counts of instructions, in the units of their parameters: the ratios are those of larger ones.
 SIZES = {"big": 1 << 16, "small": 5, "wide": 100_000, "tree": 15, "random": 1, "zero": 1, "mixed": 1}
-OF_MESSAGES = ("vet", "is_canonical", "canonical", "get", "vet_exclusive", "pack_message")
+OF_MESSAGES = ("vet", "check_canonical", "first_difference", "canonical", "get", "vet_exclusive", "pack_message", "unpack_message")
 OF_WORDS = ("pack", "unpack")
 # Where Debian's packages of crates put them.
 CRATES = Path("/usr/share/cargo/registry")

@@ -12,7 +12,7 @@
 
 enum { MOST = 1 << 16, CALLS = 4 };
 
-static const char *const NAMES[CALLS] = {"capvet_vet", "capvet_vet_exclusive", "capvet_is_canonical", "capvet_canonical"};
+static const char *const NAMES[CALLS] = {"capvet_vet", "capvet_vet_exclusive", "capvet_check_canonical", "capvet_canonical"};
 static uint8_t bytes[MOST];
 static uint64_t marks[MOST / 512 + 1];
 
@@ -25,7 +25,7 @@ static uint32_t call(int which, size_t length, const capvet_limits *limits, uint
     case 1:
       return capvet_vet_exclusive(bytes, length, limits, marks, sizeof marks / sizeof *marks, &required, &report);
     case 2:
-      return capvet_is_canonical(bytes, length, limits, &report);
+      return capvet_check_canonical(bytes, length, limits, &report);
     default:
       return capvet_canonical(bytes, length, limits, out, size, &required, &report);
   }

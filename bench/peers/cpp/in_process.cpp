@@ -33,7 +33,7 @@ namespace {
 using Message = kj::ArrayPtr<const capnp::word>;
 
 // The calls are timed without flags, as a service makes them.
-const capvet_limits LIMITS = {CAPVET_MAX_MESSAGE_WORDS, CAPVET_MAX_CHARGE, 64, 0, {0, 0}};
+const capvet_limits LIMITS = {CAPVET_MAX_MESSAGE_WORDS, CAPVET_MAX_CHARGE, 64, 0, CAPVET_FORM_WHOLE, 0, {0, 0, 0, 0, 0, 0}};
 
 // The words that were walked are kept here, so that no walk is left out.
 volatile uint64_t walked;
@@ -149,7 +149,7 @@ bool time(const char *name, int rounds) {
     walks.theirs.run([&] { return byLibrary(messages, isWalked); });
     walks.ours.run([&] { return byCall(messages, capvet_vet); });
     checks.theirs.run([&] { return byLibrary(messages, isCanonical); });
-    checks.ours.run([&] { return byCall(messages, capvet_is_canonical); });
+    checks.ours.run([&] { return byCall(messages, capvet_check_canonical); });
   }
   for (int round = 0; copies && round < rounds; round++) {
     canons.theirs.run([&] { return byLibrary(messages, isCopied); });

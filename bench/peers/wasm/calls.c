@@ -10,7 +10,8 @@
 /* The least nanoseconds between two looks at the clock. */
 #define SPAN 1e5
 
-static const capvet_limits LIMITS = {CAPVET_MAX_MESSAGE_WORDS, CAPVET_MAX_CHARGE, CAPVET_MAX_DEPTH, 7, {0, 0}};
+static const capvet_limits LIMITS = {CAPVET_MAX_MESSAGE_WORDS, CAPVET_MAX_CHARGE, CAPVET_MAX_DEPTH,
+                                     CAPVET_ALLOW_NONSTRICT | CAPVET_ALLOW_AMPLIFIED, CAPVET_FORM_PREFIX, 0, {0, 0, 0, 0, 0, 0}};
 
 static double now(void) {
   struct timespec it;

@@ -2,7 +2,7 @@
 import { readFileSync } from "node:fs";
 
 // (the least milliseconds between two looks at the clock)
-const PAGE = 65536, SPAN = 0.1, LIMITS = 0, REPORT = 64, REQUIRED = 160, INPUT = 192;
+const PAGE = 65536, SPAN = 0.1, LIMITS = 0, REPORT = 80, REQUIRED = 200, INPUT = 208;
 
 const [name, file, seconds] = process.argv.slice(2);
 const { instance } = await WebAssembly.instantiate(readFileSync(name), {});
@@ -12,7 +12,8 @@ const out = base + INPUT + bytes.length, size = 2 * bytes.length + 64;
 memory.grow(Math.ceil((out + size - memory.buffer.byteLength) / PAGE));
 new Uint8Array(memory.buffer, base + INPUT).set(bytes);
 const view = new DataView(memory.buffer, base);
-[2n ** 28n, 2n ** 28n, 256n | (7n << 32n)].forEach((word, i) => view.setBigUint64(LIMITS + 8 * i, word, true));
+// (both flags, and the form of a prefix)
+[2n ** 28n, 2n ** 28n, 256n | (3n << 32n), 1n].forEach((word, i) => view.setBigUint64(LIMITS + 8 * i, word, true));
 
 const input = base + INPUT, [limits, report, required] = [LIMITS, REPORT, REQUIRED].map((place) => base + place);
 const calls = [

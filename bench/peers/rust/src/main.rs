@@ -15,7 +15,8 @@
 //!
 //! What differs from capvet's work:
 //! - walk counts words alone: neither depth nor pointers, and it doesn't report where a message goes wrong. The
-//!   crate has no public reader of a struct or list of unknown type, so it goes through `capnp::private`.
+//!   crate has no public reader of a struct or list of unknown type, so it goes through `capnp::private`. Where
+//!   that lacks the calls, it is `target_size`, which goes through all objects too and makes no readers.
 //! - canon doesn't vet the message: it counts the words below the root, for the size of the copy, and copies.
 //!   Both count against the traversal limit, so N has to be more than twice as large.
 //! - check stops at the first difference, and never looks at what comes after it.
@@ -25,74 +26,15 @@
 //! - pack and unpack need framed messages, and take one at a time; capvet copies words, whatever they mean.
 
 use capnp::message::{Builder, HeapAllocator, Reader, ReaderOptions, ReaderSegments, SegmentArray};
-use capnp::private::layout::{ElementSize, ListReader, PointerReader, PointerType, StructReader};
 use capnp::serialize::{self, OwnedSegments};
-use capnp::traits::{FromPointerReader, IntoInternalListReader};
-use capnp::{any_pointer, raw, serialize_packed, Result, Word};
+use capnp::{any_pointer, serialize_packed, Result};
 use std::fs::File;
 use std::io::{BufReader, BufWriter, Write};
 use std::process::exit;
 
+mod walk;
+
 const BUFFER_BYTES: usize = 65536;
-
-struct Root<'a>(PointerReader<'a>);
-
-impl<'a> FromPointerReader<'a> for Root<'a> {
-    fn get_from_pointer(pointer: &PointerReader<'a>, _: Option<&'a [Word]>) -> Result<Self> {
-        Ok(Root(*pointer))
-    }
-}
-
-struct AnyList<'a>(ListReader<'a>);
-
-impl<'a> IntoInternalListReader<'a> for AnyList<'a> {
-    fn into_internal_list_reader(self) -> ListReader<'a> {
-        self.0
-    }
-}
-
-/// Reads every node that a pointer leads to, and counts their words.
-fn walk(pointer: PointerReader<'_>) -> Result<u64> {
-    match pointer.get_pointer_type()? {
-        PointerType::Null | PointerType::Capability => Ok(0),
-        PointerType::Struct => walk_struct(pointer.get_struct(None)?),
-        // No call reads a list of any element size: one of bits has to be asked for as such.
-        PointerType::List => walk_list(
-            pointer
-                .get_list(ElementSize::Void, None)
-                .or_else(|_| pointer.get_list(ElementSize::Bit, None))?,
-        ),
-    }
-}
-
-fn walk_struct(node: StructReader<'_>) -> Result<u64> {
-    let pointers = node.get_pointer_section_size() as usize;
-    let mut words = node.get_data_section_size() as u64 / 64 + pointers as u64;
-    for i in 0..pointers {
-        words += walk(node.get_pointer_field(i))?;
-    }
-    Ok(words)
-}
-
-fn walk_list(list: ListReader<'_>) -> Result<u64> {
-    match raw::get_list_element_size(AnyList(list)) {
-        ElementSize::Pointer => {
-            let mut words = list.len() as u64;
-            for i in 0..list.len() {
-                words += walk(list.get_pointer_element(i))?;
-            }
-            Ok(words)
-        }
-        ElementSize::InlineComposite => {
-            let mut words = 1;
-            for i in 0..list.len() {
-                words += walk_struct(list.get_struct_element(i))?;
-            }
-            Ok(words)
-        }
-        _ => Ok((raw::get_list_bytes(AnyList(list)).len() as u64 + 7) / 8),
-    }
-}
 
 /// A builder whose first segment is large enough for the whole message.
 fn builder(root: &any_pointer::Reader) -> Result<Builder<HeapAllocator>> {
@@ -124,7 +66,7 @@ fn work(
 ) -> Result<bool> {
     match job {
         "walk" => {
-            let words = walk(message.get_root::<Root>()?.0)?;
+            let words = walk::words(&message)?;
             writeln!(out, "message {number}: words {words}")?;
         }
         "check" => {
