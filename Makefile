@@ -208,14 +208,14 @@ prove:
 	$(NEEDS_RT)
 	python3 tests/all.py --prove
 
-# The same with all cases of each script, and then what `make test` does. The tests in Rattle are proved too, and the prover has to
-# refuse each must-fail edit; ANEW=1 takes nothing of that from earlier gates on this machine. Then each allocation fails in turn,
-# and a node that outlives its message is refused. It fails if anything isn't tested, unless it is for lack of one of the names of
+# The same, and then what `make test` does. The tests in Rattle are proved too, and the prover has to refuse each must-fail edit;
+# ANEW=1 takes nothing of that from earlier gates on this machine. Coq checks its proofs. Then each allocation fails in turn, and a
+# node that outlives its message is refused. It fails if anything isn't tested, unless it is for lack of one of the names of
 # tests/needs.py in SKIP, as in `make gate SKIP="go wheel"`.
 SKIP ?=
 gate:
 	$(NEEDS_RT)
-	python3 tests/all.py --gate $(if $(ANEW),--anew) --full --skip "$(SKIP)"
+	python3 tests/all.py --gate $(if $(ANEW),--anew) --skip "$(SKIP)"
 	@$(MAKE) --no-print-directory allocations
 	python3 tests/lifetimes.py
 
@@ -224,7 +224,7 @@ plant:
 	$(NEEDS_RT)
 	python3 tests/plant.py
 
-# What takes longer than a gate: for 1,000,000 messages each call of the text without contracts does what the proved library does,
+# What takes longer than a gate: the scripts over the proved build make all of their cases. For 1,000,000 messages each call of the text without contracts does what the proved library does,
 # and the comparisons see changes that are planted in the text. On machines of 32 bits and on a big-endian one the calls do the same.
 # coqchk checks the proofs in Coq, and both builds of the program are compared with the vetter of these over 80,000 messages. Coq or
 # this comparison refuses each change of a definition.
@@ -234,6 +234,7 @@ plant:
 # roots of Debian 13 and of unstable, over the libcapnp, the compilers and the interpreters of these.
 .PHONY: long
 long: $(BUILT_PROGRAM) $(BUILT_ARCHIVE)
+	python3 tests/all.py --prove --full
 	python3 tests/plain_targets.py
 	python3 tests/plain_faults.py '$(BUILT_PROGRAM)' '$(BUILT_ARCHIVE)'
 	python3 tests/plain.py '$(BUILT_PROGRAM)' '$(BUILT_ARCHIVE)' --long

@@ -9,9 +9,9 @@ Debian's superuser. Where cargo can't build, and `rt` is there, all.py does what
 
 With --prove the crates are proved first, and the scripts run over what Rattle's compiler builds. Some of them are for this build
 alone: those of other machines and of packages, and those that compare both builds. With --gate the tests in Rattle are proved safe
-too, the prover has to refuse each must-fail edit, and some scripts run on Debian 13. Then --anew takes nothing from earlier runs on
-this machine. After the scripts over the proved build they run over the one by cargo, and once more as on a new machine (bare.py).
-With --full the scripts over the proved build make all of their cases.
+too, the prover has to refuse each must-fail edit, Coq checks its proofs, and some scripts run on Debian 13. Then --anew takes nothing
+from earlier runs on this machine. After the scripts over the proved build they run over the one by cargo, and once more as on a new
+machine (bare.py). With --full the scripts make all of their cases.
 
 Scripts run side by side, one for each core. What each of them writes is shown at its end, in the order of SCRIPTS.
 Each step ends with a line 'N passed, M failed'. With --scripts nothing is proved or built, and only these files run.
@@ -104,6 +104,8 @@ OVER_PROVED = (
 )
 # Those for the gate alone.
 IN_GATE = (("Debian 13", ["releases.py", PROGRAM, ARCHIVE]),)
+# Those of which the gate makes all cases over the proved build.
+WHOLE = {"mirror.py"}
 # Those in which something other than a fault can be late: a peer, a timer, a browser.
 TIMED = {"attacks.py", "before_readers.py", "fuzz.py", "go.py", "guard.py", "guard_attacks.py", "inspector.py", "js.py", "library.py", "live.py",
          "npx.py", "python.py", "releases.py", "rpc.py", "rust_rpc.py", "scale.py"}
@@ -196,10 +198,10 @@ def run_again(step, skips, show):
     return again
 
 
-def over(build, scripts, *more):
-    """These scripts over the files of a build, with more options."""
+def over(build, scripts, whole=()):
+    """These scripts over the files of a build. With --full all of them make all of their cases, and else those of `whole`."""
     files = dict(zip((PROGRAM, ARCHIVE), build))
-    return [(name, [*(files.get(word, word) for word in words), *more]) for name, words in scripts]
+    return [(name, [*(files.get(word, word) for word in words), *["--full"] * (IS_FULL or words[0] in whole)]) for name, words in scripts]
 
 
 def show_untested(steps):
@@ -246,7 +248,7 @@ def chosen(asked):
     is_proved = asked.prove or asked.gate
     scripts = (*SCRIPTS, *OVER_PROVED, *IN_GATE) if is_proved else SCRIPTS
     named = [it for it in scripts if it[1][0] in asked.scripts]
-    yield from run_scripts(over(PROVED if is_proved else PLAIN, named, *["--full"] * IS_FULL), asked.skip)
+    yield from run_scripts(over(PROVED if is_proved else PLAIN, named), asked.skip)
 
 
 def of_the_plain_build(asked):
@@ -272,7 +274,7 @@ def of_the_proved_build(asked):
     yield proofs
     if not proofs.failed:
         scripts = (*OVER_PROVED, *IN_GATE * asked.gate, *SCRIPTS)
-        yield from run_scripts(over(PROVED, scripts, *["--full"] * IS_FULL), asked.skip)
+        yield from run_scripts(over(PROVED, scripts, WHOLE if asked.gate else ()), asked.skip)
 
 
 def of_the_gate(asked):

@@ -1,5 +1,5 @@
 """How much a script shows. Without an option it makes fewer cases, of the same seeds and kinds, as `make test` does. With
---full, anywhere in its command line, it makes all of them, as `make gate` does. With --idle it also compares times, for
+--full, anywhere in its command line, it makes all of them, as `make long` does. With --idle it also compares times, for
 which the machine may do nothing else."""
 import sys
 

@@ -83,7 +83,7 @@ class Page:
         return "\n".join(f"- `tests/{file.name}`: {phrase(sentence(docstring(file)))}" for file in shared)
 
     def cases(self):
-        rows = ["| Script | Cases | `make test` | `make gate` |", "|---|---|---|---|"]
+        rows = ["| Script | Cases | `make test`, `make gate` | `make long` |", "|---|---|---|---|"]
         for file in self.files:
             source = file.read_text()
             lines = source.split("\n")
