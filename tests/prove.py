@@ -261,6 +261,11 @@ def counted(words, folder):
     return None if ran.returncode else passed
 
 
+def rt_help():
+    """What `rt` says of its words. (--anew is one where `rt ci` keeps what it has proved)"""
+    return subprocess.run(["rt", "help"], stdout=subprocess.PIPE, stderr=subprocess.STDOUT, text=True).stdout
+
+
 def prove_and_edit(words):
     """Proves everything on a copy, and tries the edits. Returns how many cases passed, or None where one failed.
     The exports for C are proved again over the libraries that `rt ci` left proved there, once for all targets."""
@@ -268,7 +273,7 @@ def prove_and_edit(words):
         root, scratch = Path(folder) / "capvet", Path(folder) / "scratch"
         copy(root)
         scratch.mkdir()
-        passed = counted(["rt", "ci", *words], root)
+        passed = counted(["rt", "ci", *(word for word in words if word in rt_help())], root)
         (root / ARCHIVE).parent.mkdir(exist_ok=True)
         if passed is None or not targets.compile_crate(root, ARCHIVE.parts[1], root / ARCHIVE, scratch):
             return None
