@@ -22,6 +22,7 @@ All of it runs again with the checks of memory that clang has, or else gcc, with
 runs with the checks of both, and valgrind counts the instructions of calls, with vetting and without. What isn't installed
 is said in a line of its own. The last line is 'N passed, M failed', and the status is 1 if a case failed.
 """
+import functools
 import itertools
 import os
 import random
@@ -44,7 +45,7 @@ import needs
 import readers
 import trees
 from amount import IS_FULL, cases
-from harness import PROGRAM, TOP, compare, differ, ended, framed, instructions, outputs, run
+from harness import ARCHIVE, PROGRAM, TOP, compare, differ, ended, framed, instructions, outputs, run
 from install import make
 from library import tidy
 from needs import missing
@@ -59,9 +60,16 @@ CHECKED = ("-O0", "-g", "-fsanitize=address,undefined", "-fno-sanitize-recover=a
 os.environ.setdefault("ASAN_OPTIONS", "detect_stack_use_after_return=0")
 CARGO = ("--offline", "--quiet")
 MANY = cases(1_000, full=5_000)  # changed messages, and as many connections
-# The most instructions of a call to a server with vetting, as a part of those without, for each kind of call.
-# (with `paced`, of which a small call takes 0.023, and waits that can be canceled)
+# The most instructions of a call to a server with vetting, as a part of those without, for each kind of call: over the proved library
+# and libcapnp 0.9. (with `paced`, of which a small call takes 0.023, and waits that can be canceled)
 MOST = {"with": {"small": 1.05, "list": 1.15}, "served": {"small": 1.05, "list": 1.15}, "bytes": {"small": 1.13, "list": 1.15}}
+# How much more it may be over the library by cargo. Vetting takes 130 to 160 instructions a struct of the list there, as the version of
+# Rust is, and 112 in the proved library: rustc checks each place in a message.
+BY_CARGO = {"list": 0.03}
+# How much more it may be over libcapnp from 1.0 on. With 1.1.0 a small call without vetting takes 0.67 of the instructions that it takes
+# with 0.9.2, so what vetting adds is a larger part. A large message from a stream of bytes is copied once more, and valgrind counts each
+# byte of such a copy as an instruction.
+LATER = {"with": {"small": 0.02}, "served": {"small": 0.02}, "bytes": {"list": 0.05}}
 # The seconds for a message that the example's server gives its peers here: only a hang takes longer.
 PATIENCE = 600
 UNREAD_LINES = 2_000  # lines of the example's server that nobody reads
@@ -341,6 +349,23 @@ def streams(name, program):
         compare(f"{name}, {part}", expected, got and got[1])
 
 
+@functools.cache
+def is_by_cargo():
+    """Whether cargo has built the archive: only then a crate of this name is in it."""
+    return "capvet_core" in run(["nm", ARCHIVE])[0]
+
+
+@functools.cache
+def is_later():
+    """Whether this is libcapnp 1.0 or later."""
+    return not run(["pkg-config", "--modversion", "capnp"])[0].startswith("0.")
+
+
+def most_of(server, kind):
+    """The most instructions of a call, as a part of those without vetting."""
+    return MOST[server][kind] + is_by_cargo() * BY_CARGO.get(kind, 0) + is_later() * LATER[server].get(kind, 0)
+
+
 def cost(program):
     """A call to a server with vetting and deadlines takes few instructions more than to one without, or fewer."""
     if missing("the cost of vetting in RPC", "valgrind"):
@@ -351,9 +376,10 @@ def cost(program):
             counts = [instructions([program, "calls", server, kind, str(calls)]) for calls in (few, more)]
             costs[server] = (counts[1] - counts[0]) / (more - few)
         ratios = {server: costs[server] / max(costs["without"], 1) for server in costs}
-        for server, most in MOST.items():
-            name = f"a {kind} call of '{server}' takes at most {most[kind]} of the instructions"
-            compare(name, True, 0.9 < ratios[server] <= most[kind])
+        for server in MOST:
+            most = most_of(server, kind)
+            name = f"a {kind} call of '{server}' takes at most {most:.2f} of the instructions: {ratios[server]:.4f}"
+            compare(name, True, 0.9 < ratios[server] <= most)
         print(f"rpc: a {kind} call takes of the instructions without vetting: "
               + ", ".join(f"{server} {ratio:.4f}" for server, ratio in ratios.items()))
 
