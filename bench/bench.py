@@ -2,7 +2,7 @@
 """Times the built program beside plain copying of the same bytes, and beside Cap'n Proto's own C++ library and
 Rust crate where they are installed, and prints a table.
 
-    bench.py [--rounds N] [--only WORD] [--program PATH] [--write | --peers ROOT]
+    bench.py [--rounds N] [--only WORD] [--program PATH] [--processor] [--write | --peers ROOT]
 
 The inputs are generated in a temporary folder. In each round every command runs once, in turn, so that
 a busy machine slows them alike; the table has the median of the rounds. MiB, MB/s and `ratio`, against `dd`
@@ -15,6 +15,8 @@ the same job. They don't do just the same work: the programs in peers/ say what 
 With --peers the two libraries are those of a root of another release of Debian, which `tests/releases.py --roots FOLDER` makes: the
 peers are built in it, and run on this machine with the C library of the root. It needs the superuser. Code of a newer crate may not
 be built: then a line says why.
+
+With --processor the seconds are processor time, which other work on the machine changes less.
 
 With --write the table and the machine also go into docs/internals/speed.md, between the marks there, and the column `peer` into
 docs/speed.svg as a chart. All rows have to run for this, beside both libraries.
@@ -335,7 +337,7 @@ def build_peers(names, folder, root=None):
     return built
 
 
-def run(timed, programs, file):
+def run(timed, programs, file, by_processor=False):
     """Seconds, and the largest resident size in KiB. A command that ends with another status ends the run."""
     words = [part for it in timed.words.split() for part in programs.get(it, [it.replace("FILE", str(file))])]
     if timed.piped:
@@ -345,7 +347,7 @@ def run(timed, programs, file):
     pid = os.posix_spawnp(words[0], words, os.environ, file_actions=[
         (os.POSIX_SPAWN_DUP2, null, 1), (os.POSIX_SPAWN_DUP2, null, 2)])
     _, status, usage = os.wait4(pid, 0)
-    seconds = time.perf_counter() - started
+    seconds = usage.ru_utime + usage.ru_stime if by_processor else time.perf_counter() - started
     os.close(null)
     status = os.waitstatus_to_exitcode(status)
     if status not in timed.statuses:
@@ -358,6 +360,7 @@ def options():
     parser.add_argument("--rounds", type=int, default=5)
     parser.add_argument("--only", default="", help="run the rows whose name or input has this word")
     parser.add_argument("--program", default=str(TOP / "build/capvet"))
+    parser.add_argument("--processor", action="store_true", help="take processor time, and not the time that passes")
     parser.add_argument("--write", action="store_true", help="write docs/internals/speed.md and docs/speed.svg")
     parser.add_argument("--peers", type=Path, help="a root of another release of Debian, for the two libraries")
     args = parser.parse_args()
@@ -365,6 +368,8 @@ def options():
         sys.exit(f"{args.program} isn't there: build it by `make build`")
     if args.write and args.only:
         sys.exit("--write takes all rows, and so no --only")
+    if args.write and args.processor:
+        sys.exit("--write takes the time that passes, and so no --processor")
     if args.write and args.peers:
         sys.exit("--write takes the libraries of this machine, and so no --peers")
     return args
@@ -390,12 +395,12 @@ def make_files(program, chosen, folder):
     return files
 
 
-def measure(chosen, programs, files, rounds):
+def measure(chosen, programs, files, rounds, by_processor):
     """The median of the seconds of each row, and its largest resident size in KiB."""
     runs = [[] for _ in chosen]
     for _ in range(rounds):
         for it, mine in zip(chosen, runs):
-            mine.append(run(it.timed, programs, files[it.input, it.packed]))
+            mine.append(run(it.timed, programs, files[it.input, it.packed], by_processor))
     return [(statistics.median(seconds for seconds, _ in mine), max(memory for _, memory in mine)) for mine in runs]
 
 
@@ -468,7 +473,7 @@ def main():
         programs = built | {"PROGRAM": [args.program]}
         chosen = [it for it in chosen if it.timed.peer is None or it.timed.peer in programs]
         files = make_files(args.program, chosen, folder)
-        results = measure(chosen, programs, files, args.rounds)
+        results = measure(chosen, programs, files, args.rounds, args.processor)
         sizes = {it.input: files[it.input, False].stat().st_size for it in chosen}
     lines = lines_of(chosen, results, sizes)
     show(lines)
