@@ -115,9 +115,14 @@ def laws():
 
 # ---- the proofs
 
+def copy(folder):
+    """Copies mirror/coq, without what Coq or OCaml made there."""
+    shutil.copytree(HERE, folder, ignore=shutil.ignore_patterns("*.vo*", "*.glob", "*.aux", "Makefile.coq*", ".Makefile*", "vetter*"))
+
+
 def proved(folder):
     """Coq checks a copy of all files, and OCaml builds the reference vetter. The vetter, if that went well."""
-    shutil.copytree(HERE, folder, ignore=shutil.ignore_patterns("*.vo*", "*.glob", "*.aux", "Makefile.coq*", ".Makefile*", "vetter*"))
+    copy(folder)
     command = re.search(r"^make -C mirror/coq$", (TOP / "docs/guide.md").read_text(), re.M)[0].split()
     said, status = run([folder if word == "mirror/coq" else word for word in command] + [f"-j{CORES}"])
     expect("Coq checks all proofs", status == 0, said)
@@ -270,12 +275,15 @@ def extreme():
 
 
 def edges():
-    """Messages about the limits of strict and unamplified messages."""
+    """Messages about the limits of strict and unamplified messages, and those of wide structs."""
     yield from (framed([list_word(0, 0, count)]) for count in range(4094, 4099))
     yield from (framed(*[[0]] * count) for count in (510, 511, 512))
     yield framed([far_word(0, 1, 1)], [far_word(0, 2), struct_word(0, 0, 0)], [])
     yield framed([far_word(0, 1)], [0])
     yield framed([far_word(0, 1)], [3])
+    yield framed([struct_word(0, 100, 0), *range(1, 101)])
+    yield framed([struct_word(0, 0, 100), *[struct_word(-1, 0, 0)] * 100])
+    yield framed([list_word(0, 7, 200), struct_word(2, 50, 50), *[*range(1, 51), *[struct_word(-1, 0, 0)] * 50] * 2])
 
 
 # ---- the comparison
