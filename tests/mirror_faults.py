@@ -84,7 +84,7 @@ CHANGES = (
            "own_at m (Struct d p) t b = own_struct (words_from m t b p) p"),
     Change("Texts", "then 48 + n else 87 + n", "then 48 + n else 55 + n"),
     Change("Reasons", "rank Place = 4\nrank Bits = 5", "rank Place = 5\nrank Bits = 4"),
-    Change("Reasons", "last_bits c n = (element_bits c * n) % 64", "last_bits c n = (element_bits c * n) % 8", COMPARED),
+    Change("Reasons", "last_bits c n = (element_bits c * n) % 64", "last_bits c n = (element_bits c * n) % 8"),
     Change("Reasons", "pub set : last / 2 ^ last_bits c n ≢ 0", "pub set : last ≢ 0"),
     Change("Reasons", "HasWord m t (b + k * (ds + ps) + (ds - 1)) 0", "HasWord m t (b + k * (ds + ps) + ds) 0"),
     Change("Reasons", "pub some : 0 < ps", "pub some : 0 ≤ ps"),
