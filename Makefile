@@ -224,14 +224,15 @@ plant:
 	$(NEEDS_RT)
 	python3 tests/plant.py
 
-# What takes longer than a gate: the scripts over the proved build make all of their cases. For 1,000,000 messages each call of the text without contracts does what the proved library does,
-# and the comparisons see changes that are planted in the text. On machines of 32 bits and on a big-endian one the calls do the same.
-# coqchk checks the proofs in Coq, and both builds of the program are compared with the vetter of these over 80,000 messages. Coq or
-# this comparison refuses each change of a definition. Coq also checks them in fresh roots of Debian 12 and 13.
-# Clients fill up to 1 GiB of the guard's memory. Good ones make calls beside hostile ones for ten minutes, and for one minute with Go's
-# race detector. The plain program over the clap of Debian 13 and of unstable has the texts of the proved one. Runs over 10,000 files
-# are stopped nine times. The library for Windows runs under wine, and packages are installed in fresh roots of Debian. Scripts run in
-# roots of Debian 13 and of unstable, over the libcapnp, the compilers and the interpreters of these.
+# What takes longer than a gate: the scripts over the proved build make all of their cases. For 1,000,000 messages each call of the
+# text without contracts does what the proved library does, and the comparisons see changes that are planted in the text. On
+# machines of 32 bits and on a big-endian one the calls do the same. coqchk checks the proofs in Coq, and both builds of the program
+# are compared with the vetter of these over 80,000 messages. Coq or this comparison refuses each change of a definition. Coq also
+# checks them in fresh roots of Debian 12 and 13. Clients fill up to 1 GiB of the guard's memory. Good ones make calls beside
+# hostile ones for ten minutes, and for one minute with Go's race detector. The plain program over the clap of Debian 13 and of
+# unstable has the texts of the proved one. Runs over 10,000 files are stopped nine times. The library for Windows runs under wine,
+# and packages are installed in fresh roots of Debian. Scripts run in roots of Debian 13 and of unstable, over the libcapnp, the
+# compilers and the interpreters of these.
 .PHONY: long
 long: $(BUILT_PROGRAM) $(BUILT_ARCHIVE)
 	python3 tests/all.py --prove --full
