@@ -272,7 +272,7 @@ def explanation(message, reason, segment, at, pointers, words, depth, start, has
     if reason == "DepthLimit":
         yield f"level {depth + 1}, limit {depth}"
     if reason == "WordLimit":
-        yield f"charge up to here {charge_to(message, pointers)}, limit {words}"
+        yield f"charge up to here {charge_to(message, pointers)} words, limit {words} words"
     yield f"reason {sentence(message, reason, segment, at)}"
     if reason == "Overlap":
         yield from earlier_lines(message, pointers)

@@ -23,7 +23,7 @@ func TestExplain(t *testing.T) {
 			"  reason segment 0 has no words, so the message has no root pointer\n"},
 		{"an amplified list", amplified, nil, "  path /\n  byte 8 of the message\n" +
 			"  pointer 0100000010800000 list of empty elements, offset 0, elements 4098\n  target 0:1, words 0\n" +
-			"  leads into segment 0, words 1\n  charge up to here 4098, limit 4097\n" +
+			"  leads into segment 0, words 1\n  charge up to here 4098 words, limit 4097 words\n" +
 			"  reason the charge up to this pointer and its target is more than the limit\n"},
 		{"a limit of the call", framed(1<<48, 1<<48, 0), with(capvet.Limits{Depth: 1}), "  path /p0\n  byte 16 of the message\n" +
 			"  pointer 0000000000000100 struct, offset 0, data words 0, pointers 1\n  target 0:2 to 0:2, words 1\n" +

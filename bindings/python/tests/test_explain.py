@@ -14,7 +14,7 @@ LINES = """  path /
   pointer 0100000010800000 list of empty elements, offset 0, elements 4098
   target 0:1, words 0
   leads into segment 0, words 1
-  charge up to here 4098, limit 4097
+  charge up to here 4098 words, limit 4097 words
   reason the charge up to this pointer and its target is more than the limit
 """
 

@@ -112,9 +112,10 @@ level_line depth =
 
 -- the charge up to the pointer, and its limit
 abbrev pub charge_line : Option ℕ → ℕ → List ℕ
-charge_line None words = (codes "  charge, limit " ++ decimal words) ++ 10 ∷ []
+charge_line None words = (codes "  charge, limit " ++ decimal words) ++ (codes " words" ++ 10 ∷ [])
 charge_line (Some charge) words =
-    ((codes "  charge up to here " ++ decimal charge) ++ (codes ", limit " ++ decimal words)) ++ 10 ∷ []
+    ((codes "  charge up to here " ++ decimal charge) ++ (codes " words, limit " ++ decimal words))
+    ++ (codes " words" ++ 10 ∷ [])
 
 -- how many words the elements of a tag need
 abbrev pub needed : ℕ → ℕ

@@ -271,8 +271,8 @@ fn push_charge_up_to_line(text: &mut Explanation, charge: u64, words: u64)
     ensures few { length text.new ≤ length text.old + PLAIN }
 {
     text.push_named(b"  charge up to here ", charge);
-    text.push_named(b", limit ", words);
-    text.push_text(b"\n");
+    text.push_named(b" words, limit ", words);
+    text.push_text(b" words\n");
 }
 
 /// Appends the limit of the charge alone.
@@ -282,7 +282,7 @@ fn push_words_line(text: &mut Explanation, words: u64)
     ensures few { length text.new ≤ length text.old + PLAIN }
 {
     text.push_named(b"  charge, limit ", words);
-    text.push_text(b"\n");
+    text.push_text(b" words\n");
 }
 
 /// Appends the words that the elements of the list of structs `word` need by its tag, and those that

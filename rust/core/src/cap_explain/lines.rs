@@ -190,14 +190,14 @@ fn push_charge_line(text: &mut Explanation, charge: Option<u64>, words: u64) {
 /// Appends this charge, and its limit.
 fn push_charge_up_to_line(text: &mut Explanation, charge: u64, words: u64) {
     text.push_named(b"  charge up to here ", charge);
-    text.push_named(b", limit ", words);
-    text.push_text(b"\n");
+    text.push_named(b" words, limit ", words);
+    text.push_text(b" words\n");
 }
 
 /// Appends the limit of the charge alone.
 fn push_words_line(text: &mut Explanation, words: u64) {
     text.push_named(b"  charge, limit ", words);
-    text.push_text(b"\n");
+    text.push_text(b" words\n");
 }
 
 /// Appends the words that the elements of the list of structs `word` need by its tag, and those that
