@@ -6,8 +6,13 @@ pub(crate) const VERSION: &str = "2.0.0-dev";
 /// The help of the program, after the list of its commands.
 pub(crate) const PROGRAM_NOTES: &str = "\
 The input is a stream of framed messages. A framed message is a table with the sizes of its
-segments, followed by the segments in words of 8 bytes. Without FILE a command reads standard input.
-For many files, CSV, JSON, and trees with texts, the package for Python has 'python -m capvet'.
+segments, followed by the segments in words of 8 bytes. Without FILE a command reads standard input;
+'-' is the name of a file. With --one a command demands exactly one message.
+
+'capvet explain' says what a refusal means, and what an input looks like that is no such stream:
+gzip, TLS, text or packed. It and 'hash' take many files, and with --json they print an object for
+each message. For CSV, archives, and trees with texts, the package for Python has
+'python -m capvet'.
 
 Exit status:
   0  every message was accepted, and is canonical for 'check'; or every word was copied;
@@ -24,6 +29,8 @@ Example:
 
 /// The help of `segments`, after the list of its options.
 pub(crate) const SEGMENTS_NOTES: &str = "\
+'capvet explain' says why a message can't be read, and which other format an input looks like.
+
 Example:
   $ capvet segments examples/contacts.bin
   message 0: segments 1 words 392
@@ -36,7 +43,8 @@ For an accepted message it prints four numbers. The charge is the number of word
 traversal reads; a target that is reached twice counts twice. The depth is the deepest level of an
 object; the structs of a list are one level below the list. Then come the numbers of pointers, null
 pointers too, and of capabilities. For a refused message it prints the reason, and the SEGMENT:WORD
-of the first pointer that is wrong.
+of the first pointer that is wrong. 'capvet explain' says what the reason means, and which other
+format an input looks like.
 
 With --strict a message is also refused in a form that common readers reject. ManySegments: it has
 512 segments. NullPad or CapabilityPad: a landing pad of one word is zero, or a capability.
@@ -61,7 +69,8 @@ that the pointer leads into, with its length. Then come what is exceeded, if som
 reason as a sentence. For Overlap a last line, 'first used by', names the earlier pointer that uses
 the same word, if there is one. If the input breaks off inside a message, or a message is too large,
 standard error has the line of this fault. Lines after it say where the message begins, what its
-table says, and the reason. The options are those of 'vet', and --canonical.
+table says, and the reason. If the input looks like gzip, TLS, text or a packed stream, a last line
+says so, as a guess. The options are those of 'vet', and --canonical.
 
 An accepted message that is not strict or is amplified has a line that 'filter', the guard and the
 libraries refuse it, and then the same lines. With --strict and --unamplified, it is refused here.
@@ -94,7 +103,7 @@ For a refused message the line of 'vet' goes to standard error, and the run goes
 
 With --stop the run ends after the first refused message, for a protocol in which a missing message
 breaks the rest. With --pack the output is packed, its table and each segment by itself. With
---exclusive a message is refused as in 'vet'.
+--exclusive a message is refused as in 'vet'. 'capvet explain' says what a refusal means.
 
 Example:
   $ cat examples/cycle.bin examples/contacts.bin | capvet filter | capvet vet
@@ -105,7 +114,8 @@ Example:
 pub(crate) const DUMP_NOTES: &str = "\
 After the line of 'vet', an accepted message has the lines of its tree. A node has one line, then
 its own words and its children, two spaces deeper. The steps /pN and /iN of a PATH lead to the
-children pN and iN (see 'capvet help get').
+children pN and iN (see 'capvet help get'). 'capvet explain' says what a refusal means, and which
+other format an input looks like.
 
 Example:
   $ capvet dump examples/contacts.bin | head -n 6
@@ -121,7 +131,11 @@ pub(crate) const GET_NOTES: &str = "\
 PATH is '/' for the root, or a list of steps. The step '/pN' leads to pointer N of a struct, and
 '/iN' to element N of a list of pointers or structs, both counted from 0. The node is printed
 without the nodes below it. A message that has no node at PATH is accepted all the same: 'get'
-prints 'none', and the exit status stays as it is.
+prints 'none', and the exit status stays as it is. 'capvet explain' says what a refusal means, and
+which other format an input looks like.
+
+'capnp compile -ocapnp SCHEMA' prints the place of each field in its struct. ptr[N] is the step
+'/pN', and bits[A, B) are in the words d0, d1 and so on.
 
 Example:
   $ capvet get /p0/i1 examples/contacts.bin
@@ -134,6 +148,9 @@ pub(crate) const CHECK_NOTES: &str = "\
 A message is canonical if it has one segment, with exactly the words that 'canon' writes after the
 table of its copy. For a refused message it prints the line of 'vet'.
 
+'capvet explain --canonical' says why a message is not canonical. It also says what a refusal means,
+and which other format an input looks like.
+
 Example:
   $ capvet canon examples/contacts.bin | capvet check
   message 0: canonical";
@@ -143,6 +160,7 @@ pub(crate) const CANON_NOTES: &str = "\
 A copy is a message of one segment; its table is the first 8 bytes. Two messages have equal copies
 exactly if they have the same content, apart from zeros and null pointers at the end of structs. The
 command ends at the first message that is refused or has a capability. To hash copies, use 'hash'.
+'capvet explain' says what a refusal means, and which other format an input looks like.
 
 Example:
   $ capvet canon examples/contacts-many-segments.bin | capvet segments | head -n 1
@@ -154,7 +172,8 @@ The hash is that of the bytes which 'canon' writes after the table of the copy, 
 messages with the same content have the same hash, apart from zeros and null pointers at the end of
 structs. A message with a capability has no copy, and the line has the place of its first one. For
 a refused message it prints the line of 'vet'. A program should compare hashes only if the exit
-status is 0. With --one the line of a hash is the 64 digits alone.
+status is 0. With --one the line of a hash is the 64 digits alone. 'capvet explain' says what a
+refusal means.
 
 Example:
   $ capvet hash examples/contacts.bin
@@ -162,12 +181,16 @@ Example:
 
 /// The help of `pack`, after the list of its options.
 pub(crate) const PACK_NOTES: &str = "\
+If the input ends inside a word, 'capvet explain' says in which message.
+
 Example:
   $ capvet pack examples/contacts.bin | capvet vet --packed
   message 0: accepted charge 391 depth 11 pointers 125 caps 0";
 
 /// The help of `unpack`, after the list of its options.
 pub(crate) const UNPACK_NOTES: &str = "\
+If the input ends inside a packed group, 'capvet explain --packed' says in which message.
+
 Example:
   $ capvet unpack examples/contacts.packed | capvet vet
   message 0: accepted charge 391 depth 11 pointers 125 caps 0";

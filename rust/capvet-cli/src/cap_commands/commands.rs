@@ -21,9 +21,10 @@ const DEFAULT_DEPTH_TEXT: &str = "64";
 /// The most that `--size` and `--words` take, in words.
 const MOST_WORDS: i64 = 268435456;
 
-const SIZE_HELP: &str = "Maximum words of a message, without its table: 0 to 268435456";
+const SIZE_HELP: &str =
+    "Maximum words of a message, without its table: 0 to 268435456, or as 64MiB";
 
-const WORDS_HELP: &str = "Maximum charge of a message in words: 0 to 268435456";
+const WORDS_HELP: &str = "Maximum charge of a message in words: 0 to 268435456, or as 64MiB";
 
 /// The most that `--depth` takes, in levels.
 const MOST_DEPTH: i64 = 256;
