@@ -16,7 +16,7 @@ tests/model.py. Each reason has to occur 20 times, and so do canonical messages.
 
 Streams that break off go through the program too, plain and packed, a fifth as many. Its lines on their ends are compared
 with what this script finds in their bytes. As many are of another format, or in the other form. `hash` and `filter` guess the format
-of each too, where its first bytes give it away.
+of each too: by its first bytes, or by the place where reading it ended.
 
 tests/c/explain.c explains each of these messages too, with the limits and flags of the same options. Its buffers have various
 sizes, one of them just the length of the text. It writes the lines after that of the verdict. Its answer and report are those of
@@ -518,31 +518,33 @@ def guess_lines(number, start, head, is_packed):
 
 def break_lines(text, is_packed, limit):
     """How many messages of an input are whole, and what standard error says of the one at which it breaks off, if it does. A guess
-    may come last."""
+    may come last. The third result is the guess of a command that doesn't know where this message begins, in a list."""
     words, is_cut = words_of_input(text, is_packed)
     number, start = 0, 0
     while words or is_cut:
         count, long, sizes = table_of(words)
+
+        # (a packed word of the table, which was read, has two bytes or more)
+        def ended(lines, place, head=b""):
+            return number, [*lines, *guess_lines(number, start, head, is_packed)], guess_lines(number, place, head, is_packed)
         where = f"  message at byte {start} of the {'packed ' * is_packed}input"
         if count is not None and count > 512:
-            return number, [f"capvet: message {number}: TooManySegments {count}", where, f"  segments {count}, limit 512",
-                            "  reason the first word of the message says more segments than a message may have",
-                            *guess_lines(number, start, words[0][0][:4], is_packed)]
+            return ended([f"capvet: message {number}: TooManySegments {count}", where, f"  segments {count}, limit 512",
+                          "  reason the first word of the message says more segments than a message may have"],
+                         words[0][1] - 2, words[0][0][:4])
         reported = [] if sizes is None else [f"  table segments {count}, words {sum(sizes)}"]
         if sizes is not None and sum(sizes) > limit:
-            return number, [f"capvet: message {number}: TooLarge {sum(sizes)}", where, *reported,
-                            f"  words {sum(sizes)}, limit {limit}",
-                            "  reason the segments together have more words than the limit allows",
-                            *guess_lines(number, start, b"", is_packed)]
+            return ended([f"capvet: message {number}: TooLarge {sum(sizes)}", where, *reported, f"  words {sum(sizes)}, limit {limit}",
+                          "  reason the segments together have more words than the limit allows"], words[long - 1][1] - 2)
         if sizes is None or len(words) < long + sum(sizes):
             needed = "" if sizes is None else f", needed {8 * (long + sum(sizes))}{' unpacked' * is_packed}"
             place, part = "segment table" if sizes is None else "segments", "packed group" if is_packed else "word"
             end = f", and inside a {part}" if is_cut else f", between two {part}s"
-            return number, [f"capvet: message {number}: Truncated at byte {len(text)}", where, *reported,
-                            f"  bytes there {len(text) - start}{' packed' * is_packed}{needed}",
-                            f"  reason the input ends inside the {place}{end}", *guess_lines(number, start, b"", is_packed)]
+            return ended([f"capvet: message {number}: Truncated at byte {len(text)}", where, *reported,
+                          f"  bytes there {len(text) - start}{' packed' * is_packed}{needed}",
+                          f"  reason the input ends inside the {place}{end}"], len(text))
         start, words, number = words[long + sum(sizes) - 1][1], words[long + sum(sizes):], number + 1
-    return number, []
+    return number, [], []
 
 
 def broken_stream(chance, stream):
@@ -586,35 +588,37 @@ GUESSES = {False: ("like gzip: decompress it first", "like TLS: decrypt it first
            True: ("like gzip: decompress it first", "like TLS: decrypt it first", "unpacked: try it without --packed")}
 
 
-def compare_guesses(command, text, lines):
+def compare_guesses(command, text, lines, guess):
     """One run of a command that guesses, over a stream on which `explain` writes these lines."""
     _, err, status = outputs([PROGRAM, *command], text)
-    # (how few bytes the messages have is known to `explain` alone)
-    said = [line for line in lines if line.startswith("capvet: ") and not line.endswith("without --packed")]
     got = [line for line in err.decode().splitlines() if line.startswith("capvet: ")]
-    compare(f"capvet {command}, {text.hex()[:400]}", (said, True), (got, status == 1 or not lines))
+    compare(f"capvet {command}, {text.hex()[:400]}", ([*lines[:1], *guess], True), (got, status == 1 or not lines))
 
 
 def compare_breaks(stream, many):
     """Runs of the program over streams that break off."""
-    chance, seen, guessed = random.Random("breaks"), Counter(), Counter()
+    chance, seen, guessed, short = random.Random("breaks"), Counter(), Counter(), Counter()
     small = [frame for frame in stream if len(frame) < 2000]
     for number in range(2 * many):
         limit, is_packed = chance.choice((8388608, 8388608, 3, 20)), number % 2 == 1
         options = ["--exclusive"] * (number % 3 == 0) + ["--size", str(limit)]
         text = in_form(chance, broken_stream(chance, small), is_packed) if number < many else foreign(chance, small, is_packed)
         out, err, status = outputs([PROGRAM, "explain", *options, *["--packed"] * is_packed], text)
-        whole, lines = break_lines(text, is_packed, limit)
+        whole, lines, guess = break_lines(text, is_packed, limit)
         compare(f"capvet explain {options}, packed {is_packed}, {text.hex()[:400]}",
                 (whole, "".join(f"{line}\n" for line in lines)), (len(re.findall(rb"^message ", out, re.M)), err.decode()))
         expect("the status of a stream that breaks off", not lines or status == 1, status)
-        compare_guesses([*GUESSING[number // 2 % len(GUESSING)], "--size", str(limit), *["--packed"] * is_packed], text, lines)
+        compare_guesses([*GUESSING[number // 2 % len(GUESSING)], "--size", str(limit), *["--packed"] * is_packed], text, lines, guess)
+        expect("what `hash` and `filter` guess, `explain` guesses", not guess or guess == lines[-1:], text.hex()[:400])
+        short["unpacked" in "".join(lines[-1:]), len(guess)] += 1
         reason = [line for line in lines if line.startswith("  reason ")]
         seen[re.sub(r"\d+", "N", " ".join((lines or ["whole"])[0].split()[3:4] + reason))] += 1
         guessed[is_packed, lines[-1].partition(" looks ")[2] if lines else ""] += 1
     for is_packed, guesses in GUESSES.items():
         for guess in guesses:
             expect(f"guesses, packed {is_packed}: {guess}", guessed[is_packed, guess] >= many // 100, guessed)
+    print(f"{short[True, 1]} of {short[True, 0] + short[True, 1]} unpacked streams look so to `hash` and `filter` too")
+    expect("unpacked streams for `hash` and `filter`", short[True, 1] >= many // 100, short)
     for name, times in sorted(seen.items()):
         print(f"{times} {name}")
     expect("each end of a stream", len(seen) >= 11 and min(seen.values()) >= many // 200, seen)

@@ -40,9 +40,6 @@ WHOLE = (
     Row("filter --size 2", f"{STRUCT} {CYCLE} {SHORT} {SHARED} {NULL}", word(f"{STRUCT} {SHORT}"),
         "message 1: refused DepthLimit at 0:0 pointers 65\n"
         "capvet: message 3: TooLarge 4\n", 1),
-    Row("filter", f"{NULL} {ROOTLESS} 0002000000000000 {NULL}", word(NULL),
-        "message 1: refused NoRoot at 0:0 pointers 0\n"
-        "capvet: message 2: TooManySegments 513\n", 1),
 )
 
 # The three options by themselves and together.
@@ -67,7 +64,7 @@ FORMS = (
         "message 1: refused Overlap at 0:2 pointers 3\n", 1),
 )
 
-# Streams that end inside a message, plain and packed.
+# Streams that end inside a message, plain and packed, and one with too many segments. Packed it looks as a plain one would.
 CUT = (
     Row("filter", f"{STRUCT} {CYCLE} {NULL} 0000000002000000 0000000001000000", word(f"{STRUCT} {NULL}"),
         "message 1: refused DepthLimit at 0:0 pointers 65\n"
@@ -77,4 +74,11 @@ CUT = (
         "capvet: message 3: Truncated at byte 22\n", 1),
     Row("filter", f"{NULL} 010000000100", word(NULL), "capvet: message 1: Truncated at byte 22\n", 1),
     Row("filter --packed", "10010000 11", word(NULL), "capvet: message 1: Truncated at byte 5\n", 1),
+    Row("filter", f"{NULL} {ROOTLESS} 0002000000000000 {NULL}", word(NULL),
+        "message 1: refused NoRoot at 0:0 pointers 0\n"
+        "capvet: message 2: TooManySegments 513\n", 1),
+    Row("filter --packed", "10010001 0202 10010000", word(NULL),
+        "message 1: refused NoRoot at 0:0 pointers 0\n"
+        "capvet: message 2: TooManySegments 513\n"
+        "capvet: the input looks unpacked: try it without --packed\n", 1),
 )

@@ -825,6 +825,27 @@ SHOWN = {
     "gzip in a filter for packed streams": Row(
         "filter --packed", "1f8b0800 00000000", "",
         "capvet: message 0: TooManySegments 2188\ncapvet: the input looks like gzip: decompress it first\n", 1),
+    # (two messages of two bytes without words, and a third table, of which one word has three bytes)
+    "a plain stream in a filter for packed ones": Row(
+        "filter --packed", "00000000 88010000", "",
+        "message 0: refused NoRoot at 0:0 pointers 0\nmessage 1: refused NoRoot at 0:0 pointers 0\n"
+        "capvet: message 2: TooManySegments 16777217\ncapvet: the input looks unpacked: try it without --packed\n", 1),
+    "a plain stream of more words in a hash of packed ones": Row(
+        "hash --packed", "00000000 1e01020301", "message 0: refused NoRoot at 0:0 pointers 0\nmessage 1: refused NoRoot at 0:0 pointers 0\n",
+        "capvet: message 2: TooManySegments 50462977\ncapvet: the input looks unpacked: try it without --packed\n", 1),
+    "no guess where the word that was read is too long": Row(
+        "hash --packed", "00000000 1f0102030101", "message 0: refused NoRoot at 0:0 pointers 0\nmessage 1: refused NoRoot at 0:0 pointers 0\n",
+        "capvet: message 2: TooManySegments 16974338\n", 1),
+    "a plain stream whose third table is too large": Row(
+        "hash --packed --size 1", "00000000 1002", "message 0: refused NoRoot at 0:0 pointers 0\nmessage 1: refused NoRoot at 0:0 pointers 0\n",
+        "capvet: message 2: TooLarge 2\ncapvet: the input looks unpacked: try it without --packed\n", 1),
+    "no guess after packed messages": Row(
+        "filter --packed", "10010000 10010000 0202", word(f"{NULL} {NULL}"), "capvet: message 2: TooManySegments 513\n", 1),
+    "a plain stream that ends in the third message": Row(
+        "hash --packed", "00000000 1002", "message 0: refused NoRoot at 0:0 pointers 0\nmessage 1: refused NoRoot at 0:0 pointers 0\n",
+        "capvet: message 2: Truncated at byte 6\ncapvet: the input looks unpacked: try it without --packed\n", 1),
+    "a packed message that ends in the third byte": Row(
+        "hash --packed", "0000 1001 00", "message 0: refused NoRoot at 0:0 pointers 0\n", "capvet: message 1: Truncated at byte 5\n", 1),
     "a message with a capability has no hash": Row("hash", CAPABILITY, "message 0: no canonical form, capability at 0:0\n", status=1),
     "no hash without a root": Row("hash", "0000000000000000", "message 0: refused NoRoot at 0:0 pointers 0\n", status=1),
     "no copy without a root": Row("canon", "0000000000000000", "", "capvet: message 0: refused NoRoot at 0:0\n", 1),

@@ -173,9 +173,10 @@ module _ {E : Type 0} (ge : output.Ghosts E) where
   abbrev pub ExitsRun : Result Outcome RunFault → E → E → ℕ → Type 0
   ExitsRun = Exits run_status run_fault_line
 
-  -- the same, with a line of a guess after that of a fault, by whether the input is read as packed
-  abbrev pub ExitsGuessed : Bool → Result Outcome RunFault → E → E → ℕ → Type 0
-  ExitsGuessed packed = Exits run_status (guessed_fault_text packed)
+  -- the same, with a line of a guess after that of a fault, by whether the input is read as packed, and
+  -- by how many bytes of it were read
+  abbrev pub ExitsGuessed : Bool → ℕ → Result Outcome RunFault → E → E → ℕ → Type 0
+  ExitsGuessed packed place = Exits run_status (guessed_fault_text packed place)
 
   -- the answer of an engine that explains: after the line of a fault come the lines that explain it
   abbrev pub ExitsExplained : Result Outcome ExplainedFault → E → E → ℕ → Type 0
@@ -185,7 +186,7 @@ module _ {E : Type 0} (ge : output.Ghosts E) where
   -- format is guessed
   abbrev pub ExitsUnread : Bool → Bool → Bool → ExplainedFault → E → E → ℕ → Type 0
   ExitsUnread true guessed packed fault = ExitsExplained (Err fault)
-  ExitsUnread false true packed fault = ExitsGuessed packed (Err fault.fault)
+  ExitsUnread false true packed fault = ExitsGuessed packed fault.at.start (Err fault.fault)
   ExitsUnread false false packed fault = ExitsRun (Err fault.fault)
 
   -- both by the work
@@ -210,6 +211,14 @@ module _ {S E : Type 0} where
     pub does : engine last answer
     pub exited : exits answer old new status
 
+  -- the same, if the report is also about where the engine left its source
+  pub record RunsTo {A : Type 0} (engine : S → A → Type 0) (exits : S → A → E → E → ℕ → Type 0)
+      (old new : E) (status : ℕ) : Type 0 where
+    pub last : S
+    pub answer : A
+    pub does : engine last answer
+    pub exited : exits last answer old new status
+
 module _ {S O E : Type 0} (gs : source.Ghosts S) (go : output.Ghosts O) (ge : output.Ghosts E) where
   -- an engine that writes a text of each message
   abbrev pub ReportsTask : Reports → (List (List ℕ) → Type 0) → Settings → S → O → O → E → E → ℕ
@@ -222,10 +231,10 @@ module _ {S O E : Type 0} (gs : source.Ghosts S) (go : output.Ghosts O) (ge : ou
   -- the same, where a fault of the format comes with a guess
   abbrev pub GuessesTask : Reports → (List (List ℕ) → Type 0) → Bool → Settings → S → O → O → E → E → ℕ
       → Type 0
-  GuessesTask reports allocates packed s first before after = Runs
+  GuessesTask reports allocates packed s first before after = RunsTo
       (λ last answer. ReportsStream gs go reports allocates (limit_of s.size) s.messages first last before
       after answer)
-      (ExitsGuessed ge packed)
+      (λ last. ExitsGuessed ge packed (gs.place last))
 
   -- an engine that explains
   abbrev pub ExplainsTask : PlacedReports → (List (List ℕ) → Type 0) → Bool → Settings → S → O → O → E → E
@@ -238,9 +247,9 @@ module _ {S O E : Type 0} (gs : source.Ghosts S) (go : output.Ghosts O) (ge : ou
   -- The engine that lets accepted messages through writes the lines of the others before `mid`. Its
   -- answer is reported after them, with a guess.
   abbrev pub FiltersTask : FilterForm → Bool → Settings → Demands → S → O → O → E → E → ℕ → Type 0
-  FiltersTask form packed s demands first before after old new status = (mid : E) × Runs
+  FiltersTask form packed s demands first before after old new status = (mid : E) × RunsTo
       (λ last answer. FiltersUnder gs go ge s first last before after old mid form demands answer)
-      (ExitsGuessed ge packed) mid new status
+      (λ last. ExitsGuessed ge packed (gs.place last)) mid new status
 
 module _ {S O E K : Type 0} (gs : source.Ghosts S) (go : output.Ghosts O) (ge : output.Ghosts E)
     (gk : sink.Ghosts K) where

@@ -57,12 +57,18 @@ fn report_run<E: ByteOut>(err: &mut E, answer: &Result<Outcome, RunFault>) -> u8
 }
 
 /// Writes the line of the fault that ended a run, if there is one, and what the input looks like if
-/// it is of another format. `packed` says whether it was read as packed. Returns the exit status.
-fn report_guessed<E: ByteOut>(packed: bool, err: &mut E, answer: &Result<Outcome, RunFault>) -> u8
-    ensures { ExitsGuessed E.ByteOut packed answer.now err.old err.new result }
+/// it is of another format. `packed` says whether it was read as packed, and `place` how many bytes of
+/// it were read. Returns the exit status.
+fn report_guessed<E: ByteOut>(
+    packed: bool,
+    place: u64,
+    err: &mut E,
+    answer: &Result<Outcome, RunFault>,
+) -> u8
+    ensures { ExitsGuessed E.ByteOut packed place answer.now err.old err.new result }
 {
     if let Err(fault) = answer {
-        let _ = write_guessed_fault(err, fault, packed);
+        let _ = write_guessed_fault(err, fault, packed, place);
     }
     stream_status(answer)
 }
@@ -134,7 +140,7 @@ fn report_first<E: ByteOut>(work: &Work, packed: bool, err: &mut E, fault: Expla
         return report_explained(err, &Err(fault));
     }
     if guesses(work) {
-        return report_guessed(packed, err, &Err(fault.fault));
+        return report_guessed(packed, fault.at.start, err, &Err(fault.fault));
     }
     report_run(err, &Err(fault.fault))
 }
@@ -234,7 +240,7 @@ impl Course {
     {
         let (alloc, settings, flushing) = (self.alloc, &self.settings, &self.flushing);
         let answer = run_filter(alloc, source, out, err, settings, demands, form, flushing);
-        report_guessed(self.packed, err, &answer)
+        report_guessed(self.packed, source.position(), err, &answer)
     }
 
     /// Writes the node at a path of each message, and returns the exit status.
@@ -273,10 +279,10 @@ impl Course {
         let (alloc, settings, flushing) = (self.alloc, &self.settings, &self.flushing);
         if alone {
             let answer = run_digest_with(alloc, source, out, settings, demands, flushing);
-            report_guessed(self.packed, err, &answer)
+            report_guessed(self.packed, source.position(), err, &answer)
         } else {
             let answer = run_hash_with(alloc, source, out, settings, demands, flushing);
-            report_guessed(self.packed, err, &answer)
+            report_guessed(self.packed, source.position(), err, &answer)
         }
     }
 
@@ -349,7 +355,7 @@ impl Course {
             }
             JsonReport::Hash => {
                 let answer = run_hash_json(alloc, source, out, settings, demands, flushing);
-                report_guessed(self.packed, err, &answer)
+                report_guessed(self.packed, source.position(), err, &answer)
             }
         }
     }

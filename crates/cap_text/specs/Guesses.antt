@@ -70,43 +70,45 @@ unpacked_guess first = if is_unpacked_gzip first then Some guess.Gzip else
 abbrev pub count_guess : Bool → ℕ → Option Guess
 count_guess packed count = if packed then unpacked_guess (count - 1) else plain_guess (count - 1)
 
--- The bytes of the first message may give a format away, and those after n messages don't.
-abbrev pub first_guess : Bool → ℕ → ℕ → Option Guess
-first_guess packed n count = if n == 0 then count_guess packed count else None
-
 -- A message with words has four packed bytes or more. The table of a stream that isn't packed unpacks to
--- messages without words.
-abbrev pub few_guess : ℕ → StreamBreak → Option Guess
-few_guess n at = if at.packed && nat_lt at.start (4 * n) then Some guess.Plain else None
+-- messages without words. Message n begins at this byte of the input.
+abbrev pub few_guess : Bool → ℕ → ℕ → Option Guess
+few_guess packed n start = if packed && nat_lt start (4 * n) then Some guess.Plain else None
 
 -- the guess where message n of a stream can't be read, by what is known of it
 abbrev pub break_guess : ℕ → FrameFault → StreamBreak → Option Guess
 break_guess n (TooManySegments count) at =
-    if n == 0 then count_guess at.packed count else few_guess n at
-break_guess n (TooLarge words) at = few_guess n at
-break_guess n (Truncated byte) at = few_guess n at
+    if n == 0 then count_guess at.packed count else few_guess at.packed n at.start
+break_guess n (TooLarge words) at = few_guess at.packed n at.start
+break_guess n (Truncated byte) at = few_guess at.packed n at.start
 break_guess n Device at = None
 break_guess n Memory at = None
 break_guess n Spent at = None
 
--- the same by the fault alone
-abbrev pub frame_guess : Bool → ℕ → FrameFault → Option Guess
-frame_guess packed n (TooManySegments count) = first_guess packed n count
-frame_guess packed n (TooLarge words) = None
-frame_guess packed n (Truncated byte) = None
-frame_guess packed n Device = None
-frame_guess packed n Memory = None
-frame_guess packed n Spent = None
+-- A word of the table of a message was read, and no byte after this place. A packed word has two bytes or
+-- more, so the message begins at this byte at the latest.
+abbrev pub latest_start : ℕ → ℕ
+latest_start place = place - 2
+
+-- The same guess if it isn't known where message n begins. No byte of the input after this place was read.
+abbrev pub frame_guess : Bool → ℕ → ℕ → FrameFault → Option Guess
+frame_guess packed place n (TooManySegments count) =
+    if n == 0 then count_guess packed count else few_guess packed n (latest_start place)
+frame_guess packed place n (TooLarge words) = few_guess packed n (latest_start place)
+frame_guess packed place n (Truncated byte) = few_guess packed n byte
+frame_guess packed place n Device = None
+frame_guess packed place n Memory = None
+frame_guess packed place n Spent = None
 
 -- the guess where an engine ended at message n
-abbrev pub cause_guess : Bool → ℕ → Cause → Option Guess
-cause_guess packed n TooManyMessages = None
-cause_guess packed n (Frame fault) = frame_guess packed n fault
-cause_guess packed n (Output fault) = None
-cause_guess packed n (Refused refusal) = None
-cause_guess packed n (NotStrict fault) = None
-cause_guess packed n (Canon fault) = None
-cause_guess packed n no_marks = None
+abbrev pub cause_guess : Bool → ℕ → ℕ → Cause → Option Guess
+cause_guess packed place n TooManyMessages = None
+cause_guess packed place n (Frame fault) = frame_guess packed place n fault
+cause_guess packed place n (Output fault) = None
+cause_guess packed place n (Refused refusal) = None
+cause_guess packed place n (NotStrict fault) = None
+cause_guess packed place n (Canon fault) = None
+cause_guess packed place n no_marks = None
 
 -- what is said of a guess
 abbrev pub guess_text : Guess → List ℕ
@@ -122,6 +124,6 @@ guess_line None = []
 guess_line (Some g) = (codes "capvet: " ++ guess_text g) ++ 10 ∷ []
 
 -- the line of a fault, and the line of a guess
-abbrev pub guessed_fault_text : Bool → RunFault → List ℕ
-guessed_fault_text packed fault =
-    run_fault_line fault ++ guess_line (cause_guess packed fault.message fault.cause)
+abbrev pub guessed_fault_text : Bool → ℕ → RunFault → List ℕ
+guessed_fault_text packed place fault =
+    run_fault_line fault ++ guess_line (cause_guess packed place fault.message fault.cause)

@@ -1,6 +1,6 @@
 //! What an input may be that is no framed stream.
 
-ghost use Rattle.cap_text.specs.Guesses.{break_guess, cause_guess, count_guess, few_guess, first_guess, frame_guess, guess_line, guess_text, guessed_fault_text, is_gzip, is_packed, is_packed_root, is_text, is_text_byte, is_tls, is_unpacked_gzip, is_unpacked_tls, plain_guess, unpacked_guess};
+ghost use Rattle.cap_text.specs.Guesses.{break_guess, cause_guess, count_guess, few_guess, frame_guess, guess_line, guess_text, guessed_fault_text, is_gzip, is_packed, is_packed_root, is_text, is_text_byte, is_tls, is_unpacked_gzip, is_unpacked_tls, latest_start, plain_guess, unpacked_guess};
 ghost use Rattle.cap_text.specs.Writing.{Writes};
 ghost use Rattle.std.specs.Prelude.{◌+◌, ◌++◌, ◌≡◌, ◌≤◌, length};
 
@@ -135,22 +135,11 @@ fn count_guess(packed: bool, count: u64) -> Option<Guess>
     }
 }
 
-/// What an input may be whose message of this number says so many segments.
-fn first_guess(packed: bool, message: u32, count: u64) -> Option<Guess>
-    ensures { result ≡ first_guess packed message count }
+/// Whether an input that is read as packed may not be so, by the byte at which a message begins.
+fn few_guess(packed: bool, message: u32, start: u64) -> Option<Guess>
+    ensures { result ≡ few_guess packed message start }
 {
-    if message == 0 {
-        count_guess(packed, count)
-    } else {
-        None
-    }
-}
-
-/// Whether an input that is read as packed may not be so, by the bytes of the messages before one.
-fn few_guess(message: u32, at: &StreamBreak) -> Option<Guess>
-    ensures { result ≡ few_guess message at.now }
-{
-    if at.packed && at.start < 4 * u64::from(message) {
+    if packed && start < 4 * u64::from(message) {
         Some(Guess::Plain)
     } else {
         None
@@ -166,25 +155,40 @@ pub(crate) fn break_guess(message: u32, fault: FrameFault, at: &StreamBreak) -> 
             if message == 0 {
                 count_guess(at.packed, count)
             } else {
-                few_guess(message, at)
+                few_guess(at.packed, message, at.start)
             }
         }
-        FrameFault::TooLarge { words: _ } => few_guess(message, at),
-        FrameFault::Truncated { byte: _ } => few_guess(message, at),
+        FrameFault::TooLarge { words: _ } => few_guess(at.packed, message, at.start),
+        FrameFault::Truncated { byte: _ } => few_guess(at.packed, message, at.start),
         FrameFault::Device => None,
         FrameFault::Memory => None,
         FrameFault::Spent => None,
     }
 }
 
-/// The guess where a message can't be read, by the fault alone.
-fn frame_guess(packed: bool, message: u32, fault: FrameFault) -> Option<Guess>
-    ensures { result ≡ frame_guess packed message fault }
+/// The last byte at which a message may begin, if a word of its table was read and no byte after
+/// this place.
+fn latest_start(place: u64) -> u64
+    ensures { result ≡ latest_start place }
+{
+    place.saturating_sub(2)
+}
+
+/// The guess where a message can't be read, if it isn't known where it begins. No byte of the input
+/// after this place was read.
+fn frame_guess(packed: bool, place: u64, message: u32, fault: FrameFault) -> Option<Guess>
+    ensures { result ≡ frame_guess packed place message fault }
 {
     match fault {
-        FrameFault::TooManySegments { count } => first_guess(packed, message, count),
-        FrameFault::TooLarge { words: _ } => None,
-        FrameFault::Truncated { byte: _ } => None,
+        FrameFault::TooManySegments { count } => {
+            if message == 0 {
+                count_guess(packed, count)
+            } else {
+                few_guess(packed, message, latest_start(place))
+            }
+        }
+        FrameFault::TooLarge { words: _ } => few_guess(packed, message, latest_start(place)),
+        FrameFault::Truncated { byte } => few_guess(packed, message, byte),
         FrameFault::Device => None,
         FrameFault::Memory => None,
         FrameFault::Spent => None,
@@ -192,11 +196,11 @@ fn frame_guess(packed: bool, message: u32, fault: FrameFault) -> Option<Guess>
 }
 
 /// The guess where an engine ended.
-fn cause_guess(packed: bool, message: u32, cause: Cause) -> Option<Guess>
-    ensures { result ≡ cause_guess packed message cause }
+fn cause_guess(packed: bool, place: u64, message: u32, cause: Cause) -> Option<Guess>
+    ensures { result ≡ cause_guess packed place message cause }
 {
     match cause {
-        Cause::Frame(fault) => frame_guess(packed, message, fault),
+        Cause::Frame(fault) => frame_guess(packed, place, message, fault),
         Cause::TooManyMessages => None,
         Cause::Output(_) => None,
         Cause::Refused(_) => None,
@@ -233,18 +237,19 @@ pub(crate) fn push_guess_line(page: &mut Page, guess: Option<Guess>)
 }
 
 /// The line of a fault, and the line of a guess.
-fn guessed_text(fault: &RunFault, packed: bool) -> Page
-    ensures { result ≡ guessed_fault_text packed fault.now }
+fn guessed_text(fault: &RunFault, packed: bool, place: u64) -> Page
+    ensures { result ≡ guessed_fault_text packed place fault.now }
 {
     let mut page = fault_text(fault);
-    push_guess_line(&mut page, cause_guess(packed, fault.message, fault.cause));
+    let guess = cause_guess(packed, place, fault.message, fault.cause);
+    push_guess_line(&mut page, guess);
     page
 }
 
 /// Writes the line of an error that ended a run, as [`write_fault`](crate::write_fault) does. If the
-/// first bytes of the input are those of another format, a line after it says which, as a guess
-/// (docs/output.md, Standard error). `packed` says whether the input was read as packed. Allocates
-/// nothing.
+/// input looks like one of another format, a line after it says which, as a guess (docs/output.md,
+/// Standard error). `packed` says whether the input was read as packed, and `place` how many bytes of
+/// it were read. Allocates nothing.
 ///
 /// # Errors
 ///
@@ -253,8 +258,9 @@ pub fn write_guessed_fault<E: ByteOut>(
     err: &mut E,
     fault: &RunFault,
     packed: bool,
+    place: u64,
 ) -> Result<(), OutFault>
-    ensures { Writes E.ByteOut err.old err.new result (guessed_fault_text packed fault.now) }
+    ensures { Writes E.ByteOut err.old err.new result (guessed_fault_text packed place fault.now) }
 {
-    write_bytes(err, guessed_text(fault, packed).text())
+    write_bytes(err, guessed_text(fault, packed, place).text())
 }

@@ -1,3 +1,4 @@
+use Rattle.std.proofs.Common.{sym}
 use Rattle.cap_cmd.proofs.running.Course.filter.Goals as goal
 
 pub returns : goal.returns
@@ -7,6 +8,6 @@ returns g c = (
     last = c.run_filter-answer.new.source;
     answer = c.run_filter-answer.result;
     does = c.run_filter-answer.ensures;
-    exited = c.report_guessed.ensures;
+    exited = rw (sym c.position.ensures) c.report_guessed.ensures;
   },
 )

@@ -1,3 +1,4 @@
+use Rattle.std.proofs.Common.{sym}
 use Rattle.cap_cmd.proofs.running.Course.json.Goals as goal
 
 pub returns-then-exclusive : goal.returns-then-exclusive
@@ -32,5 +33,5 @@ returns-in-Hash g c = rw c.in-Hash.is (record {
   last = c.run_hash_json-answer.new.source;
   answer = c.run_hash_json-answer.result;
   does = c.run_hash_json-answer.ensures;
-  exited = c.report_guessed.ensures;
+  exited = rw (sym c.position.ensures) c.report_guessed.ensures;
 })
