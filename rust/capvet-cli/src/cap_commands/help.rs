@@ -118,6 +118,10 @@ its own words and its children, two spaces deeper. The steps /pN and /iN of a PA
 children pN and iN (see 'capvet help get'). 'capvet explain' says what a refusal means, and which
 other format an input looks like.
 
+A node 'struct 1 6' has 1 word of data and 6 pointers. A node 'structs 7 1 6' is a list of 7 such
+structs, and 'pointers 3' a list of 3 pointers. A node 'list 2 33' has 33 values of code 2. Values
+of the codes 0 to 5 have 0, 1, 8, 16, 32 and 64 bits.
+
 Example:
   $ capvet dump examples/contacts.bin | head -n 6
   message 0: accepted charge 391 depth 11 pointers 125 caps 0
@@ -135,8 +139,9 @@ without the nodes below it. A message that has no node at PATH is accepted all t
 prints 'none', and the exit status stays as it is. 'capvet explain' says what a refusal means, and
 which other format an input looks like.
 
-'capnp compile -ocapnp SCHEMA' prints the place of each field in its struct. ptr[N] is the step
-'/pN', and bits[A, B) are in the words d0, d1 and so on.
+The command 'capnp compile -ocapnp SCHEMA' prints the place of each field in its struct. There
+ptr[N] is the step '/pN', and bits[A, B) are in the words d0, d1 and so on. See 'capvet help dump'
+for the line of a node.
 
 Example:
   $ capvet get /p0/i1 examples/contacts.bin
