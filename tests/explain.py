@@ -12,7 +12,7 @@ As many messages in which most pointers lead to words of one another go through 
 first pointer that uses a word of an overlap is found here by its definition, from the words that each pointer uses.
 
 With --canonical go three times as many messages that are nearly canonical: those of tests/differences.py. The first difference of each is that of
-tests/model.py. Each reason has to occur 20 times, and so do canonical messages.
+tests/model.py, and the words beside it are those of its copy. Each reason has to occur 20 times, and so do canonical messages.
 
 Streams that break off go through the program too, plain and packed, a fifth as many. Its lines on their ends are compared
 with what this script finds in their bytes. As many are of another format, or in the other form. `hash` and `filter` guess the format
@@ -313,12 +313,34 @@ def filter_lines(message, words, depth, start, has_table):
     return []
 
 
-def difference_lines(number, message, first, start):
+def beside_line(message, tree, first):
+    """What the message has at its first difference, and what its copy has in the same place: a word of each, or two numbers."""
+    reason, segment, at, pointers = first
+    if reason == "Segments":
+        return f"segments {len(message)}, the copy has 1"
+    copy = model.canonical(message)
+    if reason == "Trailing":
+        return f"words {len(message[0])}, the copy has {len(copy)}"
+    found = tree.steps[pointers - 1][1]
+    if found.kind == "cap":
+        return f"word {segment}:{at} {hexed(message[segment][at])}, there is no copy"
+    if reason in ("Far", "EmptyStruct", "Place"):
+        return f"word {segment}:{at} {hexed(message[segment][at])}, the copy has {hexed(copy[at])}"
+    if reason in ("Bits", "EmptyList"):
+        at = found.start if reason == "EmptyList" else found.start + found.words - 1
+        return f"word {segment}:{at} {hexed(message[segment][at])}, the copy has {hexed(copy[at])}"
+    count, data, pointers = found.sizes if found.kind == "structs" else (1, *found.sizes)
+    at = found.start + (found.kind == "structs")
+    at += {"Surplus": count * (data + pointers), "DataZero": data - 1, "PointerNull": data + pointers - 1}[reason]
+    return f"word {segment}:{at} {hexed(message[segment][at])}, the copy has none"
+
+
+def difference_lines(number, message, tree, first, start):
     """The line on whether an accepted message is canonical, by its first difference, and the lines that explain that."""
     if not first:
         return [f"message {number}: canonical"]
     reason, segment, at, pointers = first
-    lines = [f"reason {DIFFERENCES[reason]}"]
+    lines = [f"reason {DIFFERENCES[reason]}", beside_line(message, tree, first)]
     if reason not in ("Segments", "Trailing"):
         lines = [f"path {path_to(message, pointers)}", *pointer_lines(message, segment, at, start, True), *lines]
     return [f"message {number}: not canonical: {reason} at {segment}:{at} pointers {pointers}", *(f"  {it}" for it in lines)]
@@ -338,7 +360,7 @@ def lines_of(number, message, options, start, has_table=True):
              f"caps {tree.capabilities}", *filter_lines(message, words, depth, start, has_table)]
     first = model.difference(message, tree) if "--canonical" in options else None
     if "--canonical" in options:
-        lines += difference_lines(number, message, first, start)
+        lines += difference_lines(number, message, tree, first, start)
     return lines, first[0] if first else "accepted"
 
 

@@ -153,4 +153,4 @@ module _ (m : List (List ℕ)) (end : ℕ) (report : Report) (vetted : IsVetted 
       let few : length (segment_of m 0) ≤ longest_copy = omega (arith, less, end_few) in
       (λ _. (whole few).0 (omega (arith, less, inside few)), λ _. refl)
   found_canonical (Some x) more none =
-      (λ e. absurd (cc e), λ canon. let e = (whole (short canon)).1 canon in absurd (omega (arith, e, more.4)))
+      (λ e. absurd (cc e), λ canon. let e = (whole (short canon)).1 canon in absurd (omega (arith, e, more.5)))

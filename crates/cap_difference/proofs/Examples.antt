@@ -43,7 +43,7 @@ module _ (m : List (List ℕ)) (one : length m ≡ 1) (p : ℕ) (has : HasWord m
 
   -- a reason at the root is the first difference
   at_root : (v : DifferenceReason) → IsFirstReason (PointerDiffers m 0 0 1) v
-      → FirstDifference m record { segment = 0; word = 0; pointers = 1; reason = v }
+      → FirstDifference m record { segment = 0; word = 0; pointers = 1; reason = v; end = 1 }
   at_root v x = inr (inl record {
     one = one;
     first = record {
@@ -66,12 +66,13 @@ module _ (m : List (List ℕ)) (one : length m ≡ 1) (p : ℕ) (has : HasWord m
         first = λ other b d. absurd b;
       };
     };
+    end = refl;
   })
 
   -- and so is one of its object, at word b
   at_object : (b tag : ℕ) (what : Kind) (v : DifferenceReason) → kind p < 2 → p ≢ 0 → pos b ≡ pos 1 +ℤ signed_offset_of p
       → b + extent p ≤ length (segment_of m 0) → (IsComposite p → HasWord m 0 b tag × TagFits tag (list_size p)) → HasKind p tag what
-      → IsFirstReason (ObjectDiffers m 1 p 0 b p what) v → FirstDifference m record { segment = 0; word = 0; pointers = 1; reason = v }
+      → IsFirstReason (ObjectDiffers m 1 p 0 b p what) v → FirstDifference m record { segment = 0; word = 0; pointers = 1; reason = v; end = 1 }
   at_object b tag what v k n e inside list shape x =
       let near_word : kind p ≢ 2 = λ z. omega (arith, k, z) in
       let found : FindsKind m 0 0 what 0 0 b p tag = record {
@@ -85,24 +86,24 @@ module _ (m : List (List ℕ)) (one : length m ≡ 1) (p : ℕ) (has : HasWord m
       at_root v (object_first m 0 0 1 p has near_word 0 0 b p tag what found v x)
 
 -- two segments
-segments : FirstDifference ((0 ∷ []) ∷ (0 ∷ []) ∷ []) record { segment = 0; word = 0; pointers = 0; reason = Segments }
-segments = inl record { reason = refl; many = λ e. absurd (omega (arith, e)); segment = refl; word = refl; pointers = refl }
+segments : FirstDifference ((0 ∷ []) ∷ (0 ∷ []) ∷ []) record { segment = 0; word = 0; pointers = 0; reason = Segments; end = 1 }
+segments = inl record { reason = refl; many = λ e. absurd (omega (arith, e)); segment = refl; word = refl; pointers = refl; end = refl }
 
 -- a far pointer in the segment of its landing pad, which is before the struct
-far : FirstDifference ((0xa ∷ 0x0000000100000000 ∷ 7 ∷ []) ∷ []) record { segment = 0; word = 0; pointers = 1; reason = Far }
+far : FirstDifference ((0xa ∷ 0x0000000100000000 ∷ 7 ∷ []) ∷ []) record { segment = 0; word = 0; pointers = 1; reason = Far; end = 1 }
 far =
     let m : List (List ℕ) = (0xa ∷ 0x0000000100000000 ∷ 7 ∷ []) ∷ [] in
     at_root m refl 0xa refl Far (far_first m 0 0 1 0xa refl refl)
 
 -- a capability
-capability : FirstDifference ((3 ∷ []) ∷ []) record { segment = 0; word = 0; pointers = 1; reason = Capability }
+capability : FirstDifference ((3 ∷ []) ∷ []) record { segment = 0; word = 0; pointers = 1; reason = Capability; end = 1 }
 capability =
     let m : List (List ℕ) = (3 ∷ []) ∷ [] in
     let isnt_far : kind 3 ≢ 2 = λ e. absurd (omega (arith, e)) in
     at_root m refl 3 refl Capability (capability_first m 0 0 1 3 refl isnt_far 0 0 (near 3 refl isnt_far ((refl, refl), refl) refl))
 
 -- a struct without words, by the offset 1
-empty_struct_ahead : FirstDifference ((4 ∷ 0 ∷ []) ∷ []) record { segment = 0; word = 0; pointers = 1; reason = EmptyStruct }
+empty_struct_ahead : FirstDifference ((4 ∷ 0 ∷ []) ∷ []) record { segment = 0; word = 0; pointers = 1; reason = EmptyStruct; end = 1 }
 empty_struct_ahead =
     at_object ((4 ∷ 0 ∷ []) ∷ []) refl 4 refl 2 0 (Struct 0 0) EmptyStruct (lit< tt) (λ e. absurd (omega (arith, e))) refl (lit≤ tt)
     (λ (a, b). absurd (omega (arith, a))) (is_struct refl refl)
@@ -115,7 +116,7 @@ empty_struct_ahead =
     none u lt (struct_null e h) = let r = ap rank e in omega (arith, lt, r)
 
 -- a struct of one word after a gap of one word
-after_gap : FirstDifference ((0x0000000100000004 ∷ 0 ∷ 7 ∷ []) ∷ []) record { segment = 0; word = 0; pointers = 1; reason = Place }
+after_gap : FirstDifference ((0x0000000100000004 ∷ 0 ∷ 7 ∷ []) ∷ []) record { segment = 0; word = 0; pointers = 1; reason = Place; end = 1 }
 after_gap =
     at_object ((0x0000000100000004 ∷ 0 ∷ 7 ∷ []) ∷ []) refl 0x0000000100000004 refl 2 0 (Struct 1 0) Place (lit< tt)
     (λ e. absurd (omega (arith, e))) refl (lit≤ tt) (λ (a, b). absurd (omega (arith, a))) (is_struct refl refl)
@@ -128,7 +129,7 @@ after_gap =
     none u lt (struct_null e h) = let r = ap rank e in omega (arith, lt, r)
 
 -- a struct of two data words, the last of which is zero
-last_zero : FirstDifference ((0x0000000200000000 ∷ 7 ∷ 0 ∷ []) ∷ []) record { segment = 0; word = 0; pointers = 1; reason = DataZero }
+last_zero : FirstDifference ((0x0000000200000000 ∷ 7 ∷ 0 ∷ []) ∷ []) record { segment = 0; word = 0; pointers = 1; reason = DataZero; end = 1 }
 last_zero =
     at_object ((0x0000000200000000 ∷ 7 ∷ 0 ∷ []) ∷ []) refl 0x0000000200000000 refl 1 0 (Struct 2 0) DataZero (lit< tt)
     (λ e. absurd (omega (arith, e))) refl (lit≤ tt) (λ (a, b). absurd (omega (arith, a))) (is_struct refl refl)
@@ -145,7 +146,7 @@ last_zero =
     none u lt (struct_null e h) = let r = ap rank e in omega (arith, lt, r)
 
 -- a struct of one data word and one pointer, which is null
-last_null : FirstDifference ((0x0001000100000000 ∷ 7 ∷ 0 ∷ []) ∷ []) record { segment = 0; word = 0; pointers = 1; reason = PointerNull }
+last_null : FirstDifference ((0x0001000100000000 ∷ 7 ∷ 0 ∷ []) ∷ []) record { segment = 0; word = 0; pointers = 1; reason = PointerNull; end = 1 }
 last_null =
     at_object ((0x0001000100000000 ∷ 7 ∷ 0 ∷ []) ∷ []) refl 0x0001000100000000 refl 1 0 (Struct 1 1) PointerNull (lit< tt)
     (λ e. absurd (omega (arith, e))) refl (lit≤ tt) (λ (a, b). absurd (omega (arith, a))) (is_struct refl refl)
@@ -162,7 +163,7 @@ last_null =
     none u lt (struct_null e h) = let r = ap rank e in omega (arith, lt, r)
 
 -- a list of one bit, with a second bit set after it
-bit_after : FirstDifference ((0x0000000900000001 ∷ 3 ∷ []) ∷ []) record { segment = 0; word = 0; pointers = 1; reason = Bits }
+bit_after : FirstDifference ((0x0000000900000001 ∷ 3 ∷ []) ∷ []) record { segment = 0; word = 0; pointers = 1; reason = Bits; end = 1 }
 bit_after =
     at_object ((0x0000000900000001 ∷ 3 ∷ []) ∷ []) refl 0x0000000900000001 refl 1 0 (Scalars 1 1) Bits (lit< tt)
     (λ e. absurd (omega (arith, e))) refl (lit≤ tt) (λ (a, b). absurd (omega (arith, b))) (is_scalars refl (lit< tt) refl)
@@ -176,7 +177,7 @@ bit_after =
     none u lt (bits_after e h) = let r = ap rank e in omega (arith, lt, r)
 
 -- a list of no structs, with one data word in its tag
-empty_with_sizes : FirstDifference ((0x0000000700000001 ∷ 0x0000000100000000 ∷ []) ∷ []) record { segment = 0; word = 0; pointers = 1; reason = EmptyList }
+empty_with_sizes : FirstDifference ((0x0000000700000001 ∷ 0x0000000100000000 ∷ []) ∷ []) record { segment = 0; word = 0; pointers = 1; reason = EmptyList; end = 1 }
 empty_with_sizes =
     at_object ((0x0000000700000001 ∷ 0x0000000100000000 ∷ []) ∷ []) refl 0x0000000700000001 refl 1 0x0000000100000000 (Structs 0 1 0) EmptyList
     (lit< tt) (λ e. absurd (omega (arith, e))) refl (lit≤ tt) (λ _. (refl, (refl, lit≤ tt))) (is_structs refl refl refl)
@@ -190,7 +191,7 @@ empty_with_sizes =
     none u lt (structs_null e h k) = let r = ap rank e in omega (arith, lt, r)
 
 -- a list of one struct of one word, in two words
-word_left : FirstDifference ((0x0000001700000001 ∷ 0x0000000100000004 ∷ 5 ∷ 0 ∷ []) ∷ []) record { segment = 0; word = 0; pointers = 1; reason = Surplus }
+word_left : FirstDifference ((0x0000001700000001 ∷ 0x0000000100000004 ∷ 5 ∷ 0 ∷ []) ∷ []) record { segment = 0; word = 0; pointers = 1; reason = Surplus; end = 1 }
 word_left =
     at_object ((0x0000001700000001 ∷ 0x0000000100000004 ∷ 5 ∷ 0 ∷ []) ∷ []) refl 0x0000001700000001 refl 1 0x0000000100000004 (Structs 1 1 0) Surplus
     (lit< tt) (λ e. absurd (omega (arith, e))) refl (lit≤ tt) (λ _. (refl, (refl, lit≤ tt))) (is_structs refl refl refl)
@@ -204,7 +205,7 @@ word_left =
     none u lt (structs_null e h k) = let r = ap rank e in omega (arith, lt, r)
 
 -- a list of two structs of one data word each, which are zero
-all_zero : FirstDifference ((0x0000001700000001 ∷ 0x0000000100000008 ∷ 0 ∷ 0 ∷ []) ∷ []) record { segment = 0; word = 0; pointers = 1; reason = DataZero }
+all_zero : FirstDifference ((0x0000001700000001 ∷ 0x0000000100000008 ∷ 0 ∷ 0 ∷ []) ∷ []) record { segment = 0; word = 0; pointers = 1; reason = DataZero; end = 1 }
 all_zero =
     at_object ((0x0000001700000001 ∷ 0x0000000100000008 ∷ 0 ∷ 0 ∷ []) ∷ []) refl 0x0000001700000001 refl 1 0x0000000100000008 (Structs 2 1 0) DataZero
     (lit< tt) (λ e. absurd (omega (arith, e))) refl (lit≤ tt) (λ _. (refl, (refl, lit≤ tt))) (is_structs refl refl refl)
@@ -226,7 +227,7 @@ all_zero =
     none u lt (structs_null e h k) = let r = ap rank e in omega (arith, lt, r)
 
 -- The root is null, and a word comes after it.
-word_after : FirstDifference ((0 ∷ 0 ∷ []) ∷ []) record { segment = 0; word = 1; pointers = 1; reason = Trailing }
+word_after : FirstDifference ((0 ∷ 0 ∷ []) ∷ []) record { segment = 0; word = 1; pointers = 1; reason = Trailing; end = 1 }
 word_after = inr (inr record {
   reason = refl;
   one = refl;
@@ -247,6 +248,7 @@ word_after = inr (inr record {
     denotes = (lead, refl);
     many = refl;
   };
+  end = refl;
 })
   where
     isnt_far : kind 0 ≢ 2

@@ -2,14 +2,14 @@
 use Rattle.cap_spec.specs.declared.Step.{Step}
 use Rattle.cap_spec.proofs.Lemmas.{Before-irreflexive, one_of_last, one_reached}
 use Rattle.cap_spec.proofs.Paths.Preorder.{Rises-same}
-use Rattle.cap_spec.proofs.ProofNames.{IfSome, List, None, Option, Some, [], ap, arith, inl, inr, length, length-append, subst, ℕ, ◌++◌, ◌+◌, ◌<◌, ◌∷◌}
-use Rattle.cap_spec.proofs.ProofNames.{◌≡◌, ◌≤◌, ◌⊎◌, IsOneOf, Before, Reaches, segment_of}
+use Rattle.cap_spec.proofs.ProofNames.{IfSome, List, None, Option, Some, [], ap, arith, inl, inr, length, length-append, refl, subst, sym, ℕ, ◌++◌, ◌+◌, ◌<◌, ◌∷◌}
+use Rattle.cap_spec.proofs.ProofNames.{◌∙◌, ◌≡◌, ◌≤◌, ◌⊎◌, IsOneOf, Before, Reaches, segment_of}
 use Rattle.cap_vet.specs.Reports.{IsVetted}
 use Rattle.cap_vet.specs.Trails.{Ahead, IsTrail}
 use Rattle.cap_vet.specs.Walking.{IsLookedAt}
 use Rattle.cap_vet.specs.declared.walk.vetting.Report.{Report}
 use Rattle.cap_difference.specs.Differences.{DiffersAt, EndsBefore, FirstDifference, HasWordsAfter, HasWordsBelow, HaveWords}
-use Rattle.cap_difference.specs.Differences.{IsFirstPointer}
+use Rattle.cap_difference.specs.Differences.{IsAtPointer, IsFirstPointer}
 use Rattle.cap_difference.specs.Reasons.{IsFirstReason, PointerDiffers}
 use Rattle.cap_difference.specs.Searching.{IsSameSoFar, same_on}
 use Rattle.cap_difference.specs.declared.difference.Difference.{Difference}
@@ -36,7 +36,7 @@ module _ (m : List (List ℕ)) (seen : List (List Step)) (a : Ahead) (s w n cost
   }
 
   -- If its pointer differs, it is the first that does.
-  pub stops_here : (v : DifferenceReason) → IsFirstReason (PointerDiffers m s w end) v → IsFirstPointer m s w n v
+  stops_here : (v : DifferenceReason) → IsFirstReason (PointerDiffers m s w end) v → IsFirstPointer m s w n v
   stops_here v x =
       let tour = trail_tour m seen a l.later l.trail in
       let many = length-append (preorder seen) (a.path ∷ []) in
@@ -72,6 +72,12 @@ module _ (m : List (List ℕ)) (seen : List (List Step)) (a : Ahead) (s w n cost
       before q b d (inl e) = Before-irreflexive a.path (subst (λ (u : List Step). Before u a.path) e b)
       before q b d (inr i) = k.same q (preorder_from q seen i) d
 
+  -- That is where the copy ends.
+  pub stops_at : (v : DifferenceReason) → IsFirstReason (PointerDiffers m s w end) v
+      → IsAtPointer m record { segment = s; word = w; pointers = n; reason = v; end = end }
+  unfolding stops_here
+  stops_at v x = record { one = k.one; first = stops_here v x; end = refl }
+
   -- If it doesn't, nothing differs after it either.
   pub same_here : (now : ℕ) → ((n' : ℕ) × HasWordsBelow m s w n' × (now ≡ end + n'))
       → ((v : DifferenceReason) → ¬ PointerDiffers m s w end v) → IsSameSoFar m now (a.path ∷ seen)
@@ -87,7 +93,7 @@ module _ (m : List (List ℕ)) (seen : List (List Step)) (a : Ahead) (s w n cost
 -- what says of a result that it is a difference after the last object, or that no words are there
 abbrev pub TellsSome : List (List ℕ) → ℕ → Report → Option Difference → Type 0
 TellsSome m end report r = IfSome r (λ d. (d.reason ≡ Trailing) × (d.segment ≡ 0) × (d.word ≡ end) × (d.pointers ≡ report.pointers)
-    × (end < length (segment_of m 0)))
+    × (d.end ≡ end) × (end < length (segment_of m 0)))
 
 abbrev pub TellsNone : List (List ℕ) → ℕ → Option Difference → Type 0
 TellsNone m end r = IfNone r (length (segment_of m 0) ≤ end)
@@ -134,7 +140,13 @@ module _ (m : List (List ℕ)) (end : ℕ) (report : Report) (vetted : IsVetted 
 
   pub some_found : (r : Option Difference) → TellsSome m end report r → IfSome r (FirstDifference m)
   some_found None h = h
-  some_found (Some d) h = inr (inr record { reason = h.0; one = k.one; segment = h.1; after = rw (h.2, h.3) (words_after h.4) })
+  some_found (Some d) h = inr (inr record {
+    reason = h.0;
+    one = k.one;
+    segment = h.1;
+    after = rw (h.2, h.3) (words_after h.5);
+    end = h.4 ∙ sym h.2;
+  })
 
   pub none_left : (r : Option Difference) → TellsNone m end r → IfNone r ((d : Difference) → ¬ FirstDifference m d)
   none_left None h = none_found h

@@ -4,7 +4,7 @@ use Rattle.cap_spec.proofs.Lemmas.{one_tree}
 use Rattle.cap_spec.proofs.Paths.Preorder.{Rises-same, one_first, one_number}
 use Rattle.cap_spec.proofs.ProofNames.{List, ap, arith, if◌then◌else◌, inl, inr, refl, rules, subst, sym, ℕ, ◌==◌, ◌∙◌, ◌≡◌}
 use Rattle.cap_spec.proofs.ProofNames.{pointer_count}
-use Rattle.cap_difference.specs.Differences.{DiffersAt, EndsBefore, FirstDifference, HasWordsAfter, HaveWords, IsFirstPointer}
+use Rattle.cap_difference.specs.Differences.{DiffersAt, EndsBefore, FirstDifference, HasWordsAfter, HaveWords, IsAtPointer}
 use Rattle.cap_difference.specs.Reasons.{IsFirstReason, PointerDiffers, rank}
 use Rattle.cap_difference.specs.declared.difference.Difference.{Difference}
 use Rattle.cap_difference.specs.declared.reason.DifferenceReason.{DifferenceReason}
@@ -49,12 +49,14 @@ one_first_reason P u v f g = elim (cases_order (rank u) (rank v)) [
 ]
 
 -- differences of equal parts are equal
-same_difference : (a b : Difference) → a.segment ≡ b.segment → a.word ≡ b.word → a.pointers ≡ b.pointers → a.reason ≡ b.reason → a ≡ b
-same_difference a b e1 e2 e3 e4 = search rules
+same_difference : (a b : Difference) → a.segment ≡ b.segment → a.word ≡ b.word → a.pointers ≡ b.pointers → a.reason ≡ b.reason
+    → a.end ≡ b.end → a ≡ b
+same_difference a b e1 e2 e3 e4 e5 = search rules
 
-one_pointer : (m : List (List ℕ)) (a b : Difference) → IsFirstPointer m a.segment a.word a.pointers a.reason
-    → IsFirstPointer m b.segment b.word b.pointers b.reason → a ≡ b
-one_pointer m a b f g =
+one_pointer : (m : List (List ℕ)) (a b : Difference) → IsAtPointer m a → IsAtPointer m b → a ≡ b
+one_pointer m a b at other =
+    let f = at.first in
+    let g = other.first in
     let e = one_first m (DiffersAt m) f.path g.path f.numbered.level g.numbered.level a.segment a.word b.segment b.word
     f.numbered.reached g.numbered.reached f.first g.first in
     let (x, y, z) = one_number m f.path g.path a.segment a.word a.pointers b.segment b.word b.pointers f.numbered g.numbered e in
@@ -63,6 +65,7 @@ one_pointer m a b f g =
     (subst (λ n. IsFirstReason (PointerDiffers m b.segment n f.end) a.reason) y
     (subst (λ n. IsFirstReason (PointerDiffers m n a.word f.end) a.reason) x f.differs)) in
     same_difference a b x y z (one_first_reason (PointerDiffers m b.segment b.word g.end) a.reason b.reason here g.differs)
+    (at.end ∙ ends ∙ sym other.end)
 
 -- all objects end at one word
 pub one_whole : (m : List (List ℕ)) (a b n n' : ℕ) → HasWordsAfter m a n → HasWordsAfter m b n' → (a ≡ b) × (n ≡ n')
@@ -76,13 +79,14 @@ one_whole m a b n n' f g =
 pub one_difference : (m : List (List ℕ)) (a b : Difference) → FirstDifference m a → FirstDifference m b → a ≡ b
 one_difference m a b (inl f) (inl g) =
     same_difference a b (f.segment ∙ sym g.segment) (f.word ∙ sym g.word) (f.pointers ∙ sym g.pointers) (f.reason ∙ sym g.reason)
+    (f.end ∙ sym g.end)
 one_difference m a b (inl f) (inr (inl g)) = absurd (f.many g.one)
 one_difference m a b (inl f) (inr (inr g)) = absurd (f.many g.one)
 one_difference m a b (inr (inl f)) (inl g) = absurd (g.many f.one)
 one_difference m a b (inr (inr f)) (inl g) = absurd (g.many f.one)
-one_difference m a b (inr (inl f)) (inr (inl g)) = one_pointer m a b f.first g.first
+one_difference m a b (inr (inl f)) (inr (inl g)) = one_pointer m a b f g
 one_difference m a b (inr (inl f)) (inr (inr g)) = absurd (g.after.same f.first.path f.first.first.holds)
 one_difference m a b (inr (inr f)) (inr (inl g)) = absurd (f.after.same g.first.path g.first.first.holds)
 one_difference m a b (inr (inr f)) (inr (inr g)) =
     let e = one_whole m a.word b.word a.pointers b.pointers f.after g.after in
-    same_difference a b (f.segment ∙ sym g.segment) e.0 e.1 (f.reason ∙ sym g.reason)
+    same_difference a b (f.segment ∙ sym g.segment) e.0 e.1 (f.reason ∙ sym g.reason) (f.end ∙ e.0 ∙ sym g.end)

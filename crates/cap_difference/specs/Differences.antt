@@ -82,6 +82,7 @@ pub record HasOtherSegments (m : List (List ℕ)) (difference : Difference) : Ty
   pub segment : difference.segment ≡ 0
   pub word : difference.word ≡ 0
   pub pointers : difference.pointers ≡ 0
+  pub end : difference.end ≡ 1
 
 -- It has one segment, with words after all objects.
 pub record IsTrailing (m : List (List ℕ)) (difference : Difference) : Type 0 where
@@ -89,11 +90,13 @@ pub record IsTrailing (m : List (List ℕ)) (difference : Difference) : Type 0 w
   pub one : length m ≡ 1
   pub segment : difference.segment ≡ 0
   pub after : HasWordsAfter m difference.word difference.pointers
+  pub end : difference.end ≡ difference.word
 
--- It has one segment, and this pointer is the first that differs.
+-- It has one segment, and this pointer is the first that differs. The copy has its object from word `end` on.
 pub record IsAtPointer (m : List (List ℕ)) (difference : Difference) : Type 0 where
   pub one : length m ≡ 1
   pub first : IsFirstPointer m difference.segment difference.word difference.pointers difference.reason
+  pub end : difference.end ≡ first.end
 
 -- the first difference: the number of segments, then the first pointer that differs, then words after the last object
 abbrev pub FirstDifference : List (List ℕ) → Difference → Type 0

@@ -26,6 +26,9 @@ pub struct Difference {
     pub pointers: u64,
     /// The first reason that applies there.
     pub reason: DifferenceReason,
+    /// How many words a copy has before the object of that pointer: 1 and those of the objects before it
+    /// in preorder. 1 with `Segments`.
+    pub end: u64,
 }
 
 /// Why an accepted message isn't its own canonical copy (encoding: Canonicalization): the first pointer
@@ -67,7 +70,7 @@ fn trailing<M: Segments>(message: &M, end: u64, pointers: u64) -> Option<Differe
     requires { length (M.segments message.now) ≡ 1 }
     ensures some { IfSome result (λ difference. (difference.reason ≡ DifferenceReason.Trailing)
         × (difference.segment ≡ 0) × (difference.word ≡ end) × (difference.pointers ≡ pointers)
-        × (end < length (segment_of (M.segments message.now) 0))) }
+        × (difference.end ≡ end) × (end < length (segment_of (M.segments message.now) 0))) }
     ensures none { IfNone result (length (segment_of (M.segments message.now) 0) ≤ end) }
 {
     if end >= u64::from(message.len(0)) {
@@ -78,5 +81,6 @@ fn trailing<M: Segments>(message: &M, end: u64, pointers: u64) -> Option<Differe
         word: end as u32,
         pointers,
         reason: DifferenceReason::Trailing,
+        end,
     })
 }

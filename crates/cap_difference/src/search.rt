@@ -46,6 +46,7 @@ impl Turn for DifferenceSearch {
                 word: w,
                 pointers,
                 reason,
+                end: self.end,
             }),
         }
     }
@@ -63,6 +64,7 @@ impl FirstTurn for DifferenceSearch {
                 word: 0,
                 pointers: 0,
                 reason: DifferenceReason::Segments,
+                end: 1,
             });
         }
         Ok(DifferenceSearch { end: 1 })

@@ -1,7 +1,7 @@
 -- Each sentence is true where its reason holds.
 use Rattle.cap_spec.proofs.ProofNames.{List, None, Option, Some, [], append_assoc, arith, cases_lt, codes, eq-eqb, eqb_tells}
 use Rattle.cap_spec.proofs.ProofNames.{false, false≢true, ◌∙◌, inl, inr, ints, le-ltb, lt-ltb, pos, refl, subst, sym, true, ℕ, ℤ}
-use Rattle.cap_spec.proofs.ProofNames.{◌++◌, ◌+◌, ◌<◌, ◌∷◌, ◌≡◌, ◌⊎◌, Condition, HasWord, IsComposite, IsDeepAt}
+use Rattle.cap_spec.proofs.ProofNames.{◌++◌, ◌<◌, ◌∷◌, ◌≡◌, ◌⊎◌, Condition, HasWord, IsComposite, IsDeepAt}
 use Rattle.cap_spec.proofs.ProofNames.{IsFirstFault, IsFirstOverlap, IsFirstReason, IsLaxAt, IsRefused, Leads, Reaches}
 use Rattle.cap_spec.proofs.ProofNames.{code, far_segment, is_deep, is_past, kind, levels_below, near, one_pad, pad}
 use Rattle.cap_spec.proofs.ProofNames.{to_object, two_pads}

@@ -11,6 +11,7 @@ use Rattle.cap_spec.specs.declared.StrictRefusal.{StrictRefusal}
 use Rattle.cap_spec.specs.declared.StrictRefusal.TheVariants.{ManySegments as many, Pointer as not_strict}
 use Rattle.cap_spec.specs.declared.StrictRefusal.TheVariants.{Refused as refused}
 use Rattle.cap_difference.specs.declared.difference.Difference.{Difference}
+use Rattle.cap_explain.specs.CopyWords.{copy_lines}
 use Rattle.cap_explain.specs.FormTexts.{difference_text, form_text, place_text, tag_text}
 use Rattle.cap_explain.specs.Leading.{byte_of, is_structs, landing_of, segment_after, tag_of, target_of, word_of}
 use Rattle.cap_explain.specs.Sentences.{names_pointer, sentence}
@@ -210,7 +211,7 @@ overlap_lines has_table path m start s w = path_lines path ++ lines_of m Overlap
 abbrev pub overlap_explanation : Option (List Step) → List (List ℕ) → Option MessageStart → ℕ → ℕ → List ℕ
 overlap_explanation path m start s w = overlap_lines true path m start s w
 
--- the lines that explain the first difference of an accepted message from its canonical copy
+-- the lines that explain the first difference of an accepted message from its canonical copy, with what a copy has there
 abbrev pub difference_explanation : Option (List Step) → List (List ℕ) → Option MessageStart → Difference → List ℕ
 difference_explanation path m start d =
-    path_lines path ++ lines_of m (Differs d.reason) d.segment d.word (overlap_numbers true start)
+    path_lines path ++ lines_of m (Differs d.reason) d.segment d.word (overlap_numbers true start) ++ copy_lines m d d.reason

@@ -1,4 +1,5 @@
 pub mod Charges
+pub mod CopyWords
 pub mod Explaining
 pub mod FormTexts
 pub mod Leading

@@ -4,6 +4,7 @@ ghost use Rattle.cap_explain.specs.Explaining.{difference_explanation, explanati
 ghost use Rattle.std.specs.Option.{option_map};
 ghost use Rattle.std.specs.Prelude.{◌+◌, ◌*◌, ◌++◌, ◌^◌, ◌<◌, ◌≡◌, ◌≤◌, IfSome, None, length};
 
+use crate::copy_lines::push_copy_lines;
 use crate::explanation::{CAPACITY, Explanation};
 use crate::landing::{Landing, landing_of};
 use crate::lines::{
@@ -66,8 +67,9 @@ fn push_lines<M: Segments>(
     requires exists { pointer.segment < length (M.segments message.now) }
     requires near { IfSome target.now (λ t. t.start < 2 ^ 34) }
     requires fits { length text.old + POINTER + 2 * PLAIN ≤ CAPACITY }
-    ensures { let p = pointer in text.new ≡ text.old ++ lines_over
+    ensures items { let p = pointer in text.new ≡ text.old ++ lines_over
         (M.segments message.now) fault p.segment p.word numbers p.value p.landing target.now }
+    ensures few { length text.new ≤ length text.old + POINTER + 2 * PLAIN }
 {
     if names_pointer(fault) {
         push_pointer_lines(text, message, numbers, pointer, target);
@@ -89,8 +91,9 @@ fn push_fault<M: Segments>(
     numbers: Numbers,
 )
     requires { length text.old + LINES ≤ CAPACITY }
-    ensures { text.new ≡ text.old
+    ensures items { text.new ≡ text.old
         ++ lines_of (M.segments message.now) fault segment word numbers }
+    ensures few { length text.new ≤ length text.old + LINES }
 {
     match word_of(message, segment, u64::from(word)) {
         Some(value) => {
@@ -204,10 +207,10 @@ pub fn explain_overlap_alone<M: Segments>(
 }
 
 /// Writes the lines that explain the first difference of an accepted message from its canonical
-/// copy (docs/output.md, explain): those of a refusal, with the reason of the difference. The
-/// message begins at `start`, if it is one of a stream. `path` is that to the pointer that is
-/// named. With `Segments` and `Trailing` no pointer is, so there is only the line of the reason.
-/// See [`explain`].
+/// copy (docs/output.md, explain): those of a refusal, with the reason of the difference. The last
+/// line has what differs, a word or a count, beside what the copy has there. The message begins at
+/// `start`, if it is one of a stream. `path` is that to the pointer that is named. With `Segments`
+/// and `Trailing` no pointer is, so there are only the last two lines. See [`explain`].
 pub fn explain_difference<M: Segments>(
     text: &mut Explanation,
     message: &M,
@@ -236,4 +239,5 @@ pub fn explain_difference<M: Segments>(
         difference.word,
         numbers,
     );
+    push_copy_lines(text, message, difference);
 }

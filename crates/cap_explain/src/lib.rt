@@ -3,6 +3,8 @@
 #![tactic(auto)]
 
 mod charge;
+mod copied;
+mod copy_lines;
 mod earlier;
 mod explaining;
 mod explanation;
@@ -12,6 +14,7 @@ mod laws;
 mod lines;
 mod numbers;
 mod path;
+mod rows;
 mod sentences;
 mod target;
 mod words;

@@ -3,6 +3,8 @@
 //! leads, and the reason as a sentence.
 
 mod charge;
+mod copied;
+mod copy_lines;
 mod earlier;
 mod explaining;
 mod explanation;
@@ -11,6 +13,7 @@ mod landing;
 mod lines;
 mod numbers;
 mod path;
+mod rows;
 mod sentences;
 mod target;
 mod words;

@@ -18,6 +18,9 @@ pub struct Difference {
     pub pointers: u64,
     /// The first reason that applies there.
     pub reason: DifferenceReason,
+    /// How many words a copy has before the object of that pointer: 1 and those of the objects before it
+    /// in preorder. 1 with `Segments`.
+    pub end: u64,
 }
 
 /// Why an accepted message isn't its own canonical copy (encoding: Canonicalization): the first pointer
@@ -51,5 +54,6 @@ fn trailing<M: Segments>(message: &M, end: u64, pointers: u64) -> Option<Differe
         word: end as u32,
         pointers,
         reason: DifferenceReason::Trailing,
+        end,
     })
 }

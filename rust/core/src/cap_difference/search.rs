@@ -38,6 +38,7 @@ impl Turn for DifferenceSearch {
                 word: w,
                 pointers,
                 reason,
+                end: self.end,
             }),
         }
     }
@@ -52,6 +53,7 @@ impl FirstTurn for DifferenceSearch {
                 word: 0,
                 pointers: 0,
                 reason: DifferenceReason::Segments,
+                end: 1,
             });
         }
         Ok(DifferenceSearch { end: 1 })

@@ -2,6 +2,7 @@
 //! The explanation of a refusal.
 
 use crate::cap_difference::Difference;
+use crate::cap_explain::copy_lines::push_copy_lines;
 use crate::cap_explain::explanation::{Explanation, CAPACITY};
 use crate::cap_explain::landing::{landing_of, Landing};
 use crate::cap_explain::lines::{
@@ -170,10 +171,10 @@ pub fn explain_overlap_alone<M: Segments>(
 }
 
 /// Writes the lines that explain the first difference of an accepted message from its canonical
-/// copy (docs/output.md, explain): those of a refusal, with the reason of the difference. The
-/// message begins at `start`, if it is one of a stream. `path` is that to the pointer that is
-/// named. With `Segments` and `Trailing` no pointer is, so there is only the line of the reason.
-/// See [`explain`].
+/// copy (docs/output.md, explain): those of a refusal, with the reason of the difference. The last
+/// line has what differs, a word or a count, beside what the copy has there. The message begins at
+/// `start`, if it is one of a stream. `path` is that to the pointer that is named. With `Segments`
+/// and `Trailing` no pointer is, so there are only the last two lines. See [`explain`].
 pub fn explain_difference<M: Segments>(
     text: &mut Explanation,
     message: &M,
@@ -199,4 +200,5 @@ pub fn explain_difference<M: Segments>(
         difference.word,
         numbers,
     );
+    push_copy_lines(text, message, difference);
 }

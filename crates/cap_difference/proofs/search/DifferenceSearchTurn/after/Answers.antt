@@ -1,6 +1,6 @@
 use Rattle.cap_spec.proofs.ProofNames.{inl, inr}
 use Rattle.cap_difference.proofs.Copied.{differs_so, searched_here}
-use Rattle.cap_difference.proofs.Found.{stops_here}
+use Rattle.cap_difference.proofs.Found.{stops_at}
 use Rattle.cap_difference.proofs.search.DifferenceSearchTurn.after.Goals as goal
 
 pub next_end-requires-clause-exists : goal.next_end-requires-clause-exists
@@ -19,6 +19,6 @@ returns-in-Ok-clause-ok g c = λ seen a looked known.
 pub returns-in-Err-clause-err : goal.returns-in-Err-clause-err
 returns-in-Err-clause-err g c =
     let k = c.requires.known in (
-      inr (inl record { one = k.3.same.one; first = stops_here _ k.0 k.1 _ _ _ _ _ k.2 k.3.same _ c.in-Err.ensures.differs }),
+      inr (inl (stops_at _ k.0 k.1 _ _ _ _ _ k.2 k.3.same _ c.in-Err.ensures.differs)),
       differs_so _ k.0 k.1 _ _ _ _ _ k.2 k.3 c.in-Err.ensures.not_copied,
     )

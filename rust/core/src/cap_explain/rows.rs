@@ -1,0 +1,117 @@
+// crates/cap_explain/src/rows.rt without its contracts, by tools/erase: that text is proved, this one is only tested.
+//! How much of structs, alone or in a list, a canonical copy has.
+
+use crate::cap_explain::landing::{landing_of, Landing};
+use crate::cap_explain::target::{tag_of, Target};
+use crate::cap_explain::words::word_of;
+use crate::cap_frame::Segments;
+use crate::cap_ptr::{data_size, kind, middle, pointer_size};
+
+/// Structs of one size in a row: a target, or the elements of a list.
+#[derive(Clone, Copy)]
+pub(crate) struct Row {
+    /// Counted from 0.
+    pub(crate) segment: u32,
+    /// The first word of the first of them.
+    pub(crate) first: u64,
+    pub(crate) count: u32,
+    pub(crate) data_words: u16,
+    pub(crate) pointers: u16,
+}
+
+/// A pointer word denotes null: it is zero, or the landing pad that it leads to is (encoding:
+/// Inter-Segment Pointers).
+pub(crate) fn is_null<M: Segments>(message: &M, word: u64) -> bool {
+    if word == 0 {
+        return true;
+    }
+    match landing_of(message, word) {
+        Landing::One { word: only } => only == 0,
+        _ => false,
+    }
+}
+
+/// A copy may leave out this word at the end of its section.
+fn is_empty<M: Segments>(message: &M, as_pointer: bool, word: Option<u64>) -> bool {
+    match word {
+        Some(word) => {
+            if as_pointer {
+                is_null(message, word)
+            } else {
+                word == 0
+            }
+        }
+        None => false,
+    }
+}
+
+/// The word of struct `index` of a row is so that lies there as word `at` does in the first of them.
+fn is_empty_in<M: Segments>(message: &M, row: Row, as_pointer: bool, at: u64, index: u32) -> bool {
+    let each = u64::from(row.data_words) + u64::from(row.pointers);
+    let word = word_of(message, row.segment, at + u64::from(index) * each);
+    is_empty(message, as_pointer, word)
+}
+
+/// The words of all structs of a row are so that lie as word `at` does in the first of them.
+fn are_empty<M: Segments>(message: &M, row: Row, as_pointer: bool, at: u64) -> bool {
+    let mut left = row.count;
+    while left > 0 {
+        left -= 1;
+        if !is_empty_in(message, row, as_pointer, at, left) {
+            return false;
+        }
+    }
+    true
+}
+
+/// How many of the first `count` words of each struct are left, from word `at` of the first of them on,
+/// when those at the end are cut.
+fn words_left<M: Segments>(message: &M, row: Row, as_pointer: bool, at: u64, count: u16) -> u16 {
+    let mut left = count;
+    while left > 0 {
+        if !are_empty(message, row, as_pointer, at + u64::from(left - 1)) {
+            return left;
+        }
+        left -= 1;
+    }
+    0
+}
+
+/// How many data words a copy has of each struct of a row.
+pub(crate) fn data_left<M: Segments>(message: &M, row: Row) -> u16 {
+    words_left(message, row, false, row.first, row.data_words)
+}
+
+/// How many pointers a copy has of each struct of a row.
+pub(crate) fn pointers_left<M: Segments>(message: &M, row: Row) -> u16 {
+    let first = row.first + u64::from(row.data_words);
+    words_left(message, row, true, first, row.pointers)
+}
+
+/// The structs of a list, by its tag.
+fn elements(target: &Target, tag: Option<u64>) -> Option<Row> {
+    match tag {
+        Some(tag) => Some(Row {
+            segment: target.segment,
+            first: target.start.saturating_sub(u64::from(target.excess)) + 1,
+            count: middle(tag),
+            data_words: data_size(tag),
+            pointers: pointer_size(tag),
+        }),
+        None => None,
+    }
+}
+
+/// The structs of a target: itself, or those of a list.
+pub(crate) fn row_of<M: Segments>(message: &M, target: &Target) -> Option<Row> {
+    if kind(target.word) != 0 {
+        return elements(target, tag_of(message, target));
+    }
+    Some(Row {
+        segment: target.segment,
+        first: target.start.saturating_sub(u64::from(target.excess)),
+        count: 1,
+        data_words: data_size(target.word),
+        pointers: pointer_size(target.word),
+    })
+}
