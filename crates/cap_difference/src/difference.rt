@@ -27,7 +27,7 @@ pub struct Difference {
     /// The first reason that applies there.
     pub reason: DifferenceReason,
     /// How many words a copy has before the object of that pointer: 1 and those of the objects before it
-    /// in preorder. 1 with `Segments`.
+    /// in preorder. 1 with `Segments`, and `word` with `Trailing`.
     pub end: u64,
 }
 

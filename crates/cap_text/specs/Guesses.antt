@@ -85,8 +85,8 @@ break_guess n Device at = None
 break_guess n Memory at = None
 break_guess n Spent at = None
 
--- A word of the table of a message was read, and no byte after this place. A packed word has two bytes or
--- more, so the message begins at this byte at the latest.
+-- The first word of a table of too many segments, or of one that is too large, isn't zero. So it has two
+-- packed bytes or more. If no byte after this place was read, the message begins at this byte at the latest.
 abbrev pub latest_start : ℕ → ℕ
 latest_start place = place - 2
 
