@@ -55,7 +55,7 @@ endif
 
 build/capvet build/libcapvet.a &: $(SOURCES)
 	$(NEEDS_RT)
-	python3 tests/prove.py --code
+	python3 tools/prove.py --code
 
 # Builds the proxy in front of services, in Go, by the libraries that Debian has as packages (docs/install.md names them). Nothing
 # comes from a network: Debian's libraries are no modules, so `go` looks for all packages below folders. (CGO_LDFLAGS is
@@ -89,7 +89,7 @@ endif
 inspector: $(BUILT_ARCHIVE)
 	$(NEEDS_RT)
 	@python3 packaging/targets.py wasm
-	python3 packaging/inspector.py
+	python3 packaging/make_inspector.py
 
 # What a description says about this installation. The package for CMake has its folders as paths from its own.
 DESCRIBED = -e 's|@prefix@|$(PREFIX)|' -e 's|@libdir@|$(libdir)|' -e 's|@includedir@|$(includedir)|' \
@@ -152,11 +152,11 @@ uninstall:
 	for file in $(PC_FILES); do rm -f '$(DESTDIR)$(pkgconfigdir)/'"$$file"; done
 	for file in $(CMAKE_FILES); do rm -f '$(DESTDIR)$(cmakedir)/'"$$file"; done
 
-# Packs all for users into dist/: see packaging/dist.py, and there DIST_FLAGS.
+# Packs all for users into dist/: see packaging/make_dist.py, and there DIST_FLAGS.
 DIST_FLAGS ?=
 dist: $(BUILT_PROGRAM) $(BUILT_ARCHIVE)
 	$(NEEDS_RT)
-	python3 packaging/dist.py $(DIST_FLAGS)
+	python3 packaging/make_dist.py $(DIST_FLAGS)
 
 # Builds the wheel of the package for Python, with the archive linked in, and with the inspector where esbuild is. It takes cffi, setuptools and wheel from the first
 # interpreter that has them, and nothing from a network. (pip builds a copy, so the sources stay as they are)
@@ -175,7 +175,7 @@ wheel: $(BUILT_ARCHIVE)
 # Writes the pages that are made from the definitions, the contracts and the comments of the tests.
 .PHONY: pages
 pages:
-	python3 packaging/written/write.py
+	python3 tools/pages/write.py
 
 # Writes the text of the crates without contracts, as plain Rust: rust/core and rust/capvet-cli.
 .PHONY: erase
@@ -194,35 +194,35 @@ capvet-c:
 # those above it are proved. Last come the must-fail edits that the change reaches, and the scripts that test it.
 check:
 	$(NEEDS_RT)
-	@python3 tests/check.py $(CRATE)
+	@python3 tools/check.py $(CRATE)
 
 # Builds the program and the library by cargo, and tests them as their users run them. Where `rt` is, the tests in Rattle run too. Debian's
 # superuser gets cargo and the crates installed, where they are missing.
 test:
 	$(NEEDS_CARGO)
-	python3 tests/all.py
+	python3 tools/all.py
 
 # Proves all crates of code, runs the tests in Rattle, tests the proved program and library as their users run them, and compares them
 # with those by cargo.
 prove:
 	$(NEEDS_RT)
-	python3 tests/all.py --prove
+	python3 tools/all.py --prove
 
 # The same, and then what `make test` does. The tests in Rattle are proved too, and the prover has to refuse each must-fail edit;
 # ANEW=1 takes nothing of that from earlier gates on this machine. Coq checks its proofs. Then each allocation fails in turn, and a
 # node that outlives its message is refused. It fails if anything isn't tested, unless it is for lack of one of the names of
-# tests/needs.py in SKIP, as in `make gate SKIP="go wheel"`.
+# tests/shared/needs.py in SKIP, as in `make gate SKIP="go wheel"`.
 SKIP ?=
 gate:
 	$(NEEDS_RT)
-	python3 tests/all.py --gate $(if $(ANEW),--anew) --skip "$(SKIP)"
+	python3 tools/all.py --gate $(if $(ANEW),--anew) --skip "$(SKIP)"
 	@$(MAKE) --no-print-directory allocations
-	python3 tests/lifetimes.py
+	python3 tests/calls/lifetimes.py
 
-# Tries wrong bodies of public functions, and compares those that the contracts let through with tests/planted.txt.
+# Tries wrong bodies of public functions, and compares those that the contracts let through with tools/planted.txt.
 plant:
 	$(NEEDS_RT)
-	python3 tests/plant.py
+	python3 tools/plant.py
 
 # What takes longer than a gate: the scripts over the proved build make all of their cases. For 1,000,000 messages each call of the
 # text without contracts does what the proved library does, and the comparisons see changes that are planted in the text. On
@@ -235,42 +235,42 @@ plant:
 # compilers and the interpreters of these.
 .PHONY: long
 long: $(BUILT_PROGRAM) $(BUILT_ARCHIVE)
-	python3 tests/all.py --prove --full
-	python3 tests/plain_targets.py
-	python3 tests/plain_faults.py '$(BUILT_PROGRAM)' '$(BUILT_ARCHIVE)'
-	python3 tests/plain.py '$(BUILT_PROGRAM)' '$(BUILT_ARCHIVE)' --long
-	python3 tests/build.py
-	python3 tests/mirror.py '$(BUILT_PROGRAM)' build/cargo/capvet --long
-	python3 tests/mirror_faults.py '$(BUILT_PROGRAM)'
-	python3 tests/mirror_roots.py '$(BUILT_PROGRAM)'
-	python3 tests/guard_attacks.py '$(BUILT_PROGRAM)' '$(BUILT_ARCHIVE)' --long
-	python3 tests/plain_program.py '$(BUILT_PROGRAM)' --long
-	python3 tests/scale.py '$(BUILT_PROGRAM)' '$(BUILT_ARCHIVE)' --full --long
-	python3 tests/windows.py '$(BUILT_PROGRAM)' --full
-	python3 tests/windows_zip.py '$(BUILT_PROGRAM)' --full
-	python3 tests/dist.py '$(BUILT_PROGRAM)' '$(BUILT_ARCHIVE)' --full --long
-	python3 tests/releases.py '$(BUILT_PROGRAM)' '$(BUILT_ARCHIVE)' --long
+	python3 tools/all.py --prove --full
+	python3 tests/plain/plain_targets.py
+	python3 tests/plain/plain_faults.py '$(BUILT_PROGRAM)' '$(BUILT_ARCHIVE)'
+	python3 tests/plain/plain.py '$(BUILT_PROGRAM)' '$(BUILT_ARCHIVE)' --long
+	python3 tools/build.py
+	python3 tests/mirror/mirror.py '$(BUILT_PROGRAM)' build/cargo/capvet --long
+	python3 tests/mirror/mirror_faults.py '$(BUILT_PROGRAM)'
+	python3 tests/mirror/mirror_chroots.py '$(BUILT_PROGRAM)'
+	python3 tests/network/guard_attacks.py '$(BUILT_PROGRAM)' '$(BUILT_ARCHIVE)' --long
+	python3 tests/plain/plain_program.py '$(BUILT_PROGRAM)' --long
+	python3 tests/bindings/scale.py '$(BUILT_PROGRAM)' '$(BUILT_ARCHIVE)' --full --long
+	python3 tests/machines/windows.py '$(BUILT_PROGRAM)' --full
+	python3 tests/packages/windows_zip.py '$(BUILT_PROGRAM)' --full
+	python3 tests/packages/dist.py '$(BUILT_PROGRAM)' '$(BUILT_ARCHIVE)' --full --long
+	python3 tools/releases.py '$(BUILT_PROGRAM)' '$(BUILT_ARCHIVE)' --long
 
 # Out-of-memory tests: each allocation fails in turn, first of the calls that allocate, then of the built program.
 allocations:
 	$(NEEDS_RT)
-	python3 tests/allocations.py
-	python3 tests/refusals.py build/capvet
+	python3 tests/program/allocations.py
+	python3 tests/program/program_allocations.py build/capvet
 
-# Searches with each fuzz target for SECONDS seconds, side by side: see tests/fuzz.py. What reaches something new is kept in
+# Searches with each fuzz target for SECONDS seconds, side by side: see tests/fuzz/fuzz.py. What reaches something new is kept in
 # build/fuzz, where the next search begins.
 SECONDS ?= 600
 fuzz: $(BUILT_PROGRAM) $(BUILT_ARCHIVE)
-	python3 tests/fuzz.py '$(BUILT_PROGRAM)' '$(BUILT_ARCHIVE)' --seconds $(SECONDS)
+	python3 tests/fuzz/fuzz.py '$(BUILT_PROGRAM)' '$(BUILT_ARCHIVE)' --seconds $(SECONDS)
 
 # Compares times of the packages for Go and Python, of the guard and of archives, for which the machine may do nothing else.
 times:
-	python3 tests/go.py build/capvet build/libcapvet.a --idle
-	python3 tests/guard.py build/capvet build/libcapvet.a --idle
-	python3 tests/inspector.py build/capvet build/libcapvet.a --full --idle
-	python3 tests/js.py build/capvet build/libcapvet.a --idle
-	python3 tests/python.py build/capvet build/libcapvet.a --idle
-	python3 tests/scale.py build/capvet build/libcapvet.a --idle
+	python3 tests/bindings/go.py build/capvet build/libcapvet.a --idle
+	python3 tests/network/guard.py build/capvet build/libcapvet.a --idle
+	python3 tests/inspector/inspector.py build/capvet build/libcapvet.a --full --idle
+	python3 tests/bindings/js.py build/capvet build/libcapvet.a --idle
+	python3 tests/bindings/python.py build/capvet build/libcapvet.a --idle
+	python3 tests/bindings/scale.py build/capvet build/libcapvet.a --idle
 
 # Times the built program beside plain copying of the same bytes. Where Cap'n Proto's own C++ library and Rust
 # crate are installed, it times them too. With PEERS=FOLDER they are those of a root of another release of Debian. Then it times the
@@ -281,7 +281,7 @@ bench:
 	python3 bench/in_process.py
 	python3 bench/amplified.py
 	python3 bench/hashes.py
-	python3 bench/nodes.py
-	python3 bench/paths.py
-	python3 bench/plain.py
-	python3 bench/plain_program.py
+	python3 bench/node_times.py
+	python3 bench/path_times.py
+	python3 bench/plain_times.py
+	python3 bench/plain_program_times.py

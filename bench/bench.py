@@ -12,7 +12,7 @@ program that it starts inherits. `peer` is capvet's seconds over those of the fa
 the same job. They don't do just the same work: the programs in peers/ say what differs. `capvet vet --strict` has
 --unamplified too, as `capvet filter` has by itself.
 
-With --peers the two libraries are those of a root of another release of Debian, which `tests/releases.py --roots FOLDER` makes: the
+With --peers the two libraries are those of a root of another release of Debian, which `tools/releases.py --roots FOLDER` makes: the
 peers are built in it, and run on this machine with the C library of the root. It needs the superuser. Code of a newer crate may not
 be built: then a line says why.
 
@@ -41,8 +41,8 @@ from pathlib import Path
 import chart
 
 TOP = Path(__file__).resolve().parent.parent
-sys.path.append(str(TOP / "tests"))
-import fresh_roots  # noqa: E402 (it is in the folder that the line above names)
+sys.path.append(str(TOP / "tests/shared"))
+import chroots  # (it is in the folder that the line above names)
 
 MIB = 1 << 20
 
@@ -310,7 +310,7 @@ def why_not_built_in(root, words, there):
     if manifest.is_file():
         manifest.write_text(re.sub(r"^capnp = .*", 'capnp = "*"', manifest.read_text(), flags=re.M))
     script = f"cd /mnt && exec env HOME=/mnt {shlex.join(words)} 2>&1"
-    text, status = fresh_roots.session(root, there.parent / "layer", script, f"mount --bind '{there}' \"$merged/mnt\"")
+    text, status = chroots.session(root, there.parent / "layer", script, f"mount --bind '{there}' \"$merged/mnt\"")
     lines = [it.strip() for it in text.splitlines() if "error" in it]
     return None if status == 0 else lines[0] if lines else f"{words[0]} ended with status {status}"
 
@@ -467,7 +467,7 @@ def main():
         expected = [name for name in PEERS if any(it.timed.peer == name for it in chosen)]
         built = build_peers(expected, folder, args.peers)
         if args.peers:
-            print(fresh_roots.session(args.peers, Path(folder) / "layer", VERSIONS)[0].rstrip(", "), flush=True)
+            print(chroots.session(args.peers, Path(folder) / "layer", VERSIONS)[0].rstrip(", "), flush=True)
         if args.write and len(built) < len(PEERS):
             sys.exit("--write takes both libraries")
         programs = built | {"PROGRAM": [args.program]}

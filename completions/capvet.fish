@@ -37,6 +37,7 @@ complete -c capvet -n "__capvet_is $vetting" -l strict -d 'Refuse a form that co
 complete -c capvet -n "__capvet_is $vetting" -l unamplified -d 'Refuse a charge far above the words of the message'
 complete -c capvet -n "__capvet_is $vetting" -l one -d 'Demand that the input is exactly one message'
 complete -c capvet -n "__capvet_is vet explain check hash" -l json -d 'Print a JSON object for each message, one a line'
+complete -c capvet -n "__capvet_is segments vet explain check hash" -l files -r -F -d 'Files to read, with names in the lines'
 complete -c capvet -n "__capvet_is vet explain filter" -l exclusive -d 'Refuse a message that uses a word twice'
 complete -c capvet -n "__capvet_is explain" -l canonical -d 'Say whether each accepted message is canonical, and why not'
 complete -c capvet -n "__capvet_is filter" -l allow-nonstrict -d 'Accept a form that common readers reject'

@@ -868,13 +868,15 @@ capvet_answer capvet_earlier_pointer(const uint8_t *bytes, size_t length, const 
  * text_size, the lines are written, and the bytes after them are unchanged. Otherwise `text` is unchanged.
  *
  * The lines are those that the program's command `explain` writes after the line of the verdict, without the byte in the
- * input. docs/output.md describes them. With CAPVET_FORM_WORDS, byte 0 of the message is the first byte of the first word.
+ * input. docs/output.md describes them. A path of more than 24 steps is shortened there, and capvet_pointer_path has it
+ * whole. With CAPVET_FORM_WORDS, byte 0 of the message is the first byte of the first word.
  * For CAPVET_NO_MESSAGE to CAPVET_TRAILING there is one line, which has the reason as a sentence. Each line begins with
  * two blanks and ends with a line feed. The text is ASCII, and has no zero byte at its end.
  *
  * Overlaps are not looked for. For CAPVET_OVERLAP of capvet_vet_exclusive, capvet_explain_overlap writes the lines.
  *
- * Cost: one walk. For a refused message another one up to the pointer, and a third one for CAPVET_WORD_LIMIT. */
+ * Cost: one walk. For a refused message another one up to the pointer, and a third one for CAPVET_DEPTH_LIMIT or
+ * CAPVET_WORD_LIMIT. */
 CAPVET_CALL((3, 6, 7))
 capvet_answer capvet_explain(const uint8_t *bytes, size_t length, const capvet_limits *limits, char *text,
                              size_t text_size, size_t *required, capvet_report *report) CAPVET_NOEXCEPT;

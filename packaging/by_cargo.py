@@ -16,7 +16,7 @@ built, and the status says whether all is there.
 
 cargo's archive has hundreds of objects with global symbols. Two archives of crates without std, as rustc makes them, may have the
 same symbols, and don't link into one program then. So what the calls need becomes one object here, in which the calls alone are
-global. The shared library is linked from that object, and on Linux with the name and the version node of the one that packing.py
+global. The shared library is linked from that object, and on Linux with the name and the version node of the one that common.py
 links from the proved archive.
 """
 import argparse
@@ -28,7 +28,7 @@ import sys
 import tempfile
 from pathlib import Path
 
-from packing import BUILT, TOP, calls, version
+from common import BUILT, TOP, calls, version
 
 OUT, MINGW = BUILT / "cargo", "x86_64-pc-windows-gnu"
 # What begins the names of the binary utilities and of gcc, for each target whose archive is made into one object.

@@ -13,10 +13,10 @@ import sys
 import zipfile
 from email.utils import formatdate
 
-import adapters
+import adapter_manifests
 import licences
-import pages
-from packing import (BUILT, CRATES, DIST, HERE, TOP, compress, copy_program, copy_tracked, debian_version, digest, entries, install, is_file,
+import shipped_pages
+from common import (BUILT, CRATES, DIST, HERE, TOP, compress, copy_program, copy_tracked, debian_version, digest, entries, install, is_file,
                      run, shared)
 
 # Who packs it. (No mail reaches a domain `invalid`.)
@@ -49,7 +49,7 @@ def stage(root, machine, guard, wheel):
     if (BUILT / "inspector.html").is_file():
         (root / "usr/share/capvet").mkdir()
         shutil.copy(BUILT / "inspector.html", root / "usr/share/capvet")
-    pages.write(root / "usr/share/doc/capvet", "debian", {})
+    shipped_pages.write(root / "usr/share/doc/capvet", "debian", {})
     for page in root.glob("usr/share/man/man?/*"):
         compress(page.read_bytes(), f"{page}.gz")
         page.unlink()
@@ -61,8 +61,8 @@ def crates(registry):
         # (the documentation of a crate may begin with its README)
         parts = [f"{folder}/src", *[f"{folder}/README.md"] * (TOP / folder / "README.md").exists()]
         copy_tracked(add_crate(registry, (TOP / folder / "Cargo.toml").read_text()), *parts, below=folder)
-    for folder, _, _ in adapters.ADAPTERS:
-        *older, newest = (add_crate(registry, (TOP / folder / minor / "Cargo.toml").read_text()) for minor in adapters.MINORS)
+    for folder, _, _ in adapter_manifests.ADAPTERS:
+        *older, newest = (add_crate(registry, (TOP / folder / minor / "Cargo.toml").read_text()) for minor in adapter_manifests.MINORS)
         copy_tracked(newest, f"{folder}/src", below=folder)
         for crate in older:
             (crate / "src").symlink_to(f"../{newest.name}/src")

@@ -5,7 +5,7 @@ import hashlib
 import os
 import re
 
-from packing import BUILT, TOP, run, tracked
+from common import BUILT, TOP, run, tracked
 
 PLAIN = '-buildmode=pie -ldflags "-s -w -buildid= -linkmode external -extldflags=-Wl,-z,now"'
 STATIC = '-tags netgo,osusergo -ldflags "-s -w -buildid= -linkmode external -extldflags -static"'

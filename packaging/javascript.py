@@ -9,9 +9,9 @@ import sys
 import tempfile
 from pathlib import Path
 
-import plain
+import plain_builds
 from licences import of_debian
-from packing import BUILT, DIST, TOP, run, tarball, version, when
+from common import BUILT, DIST, TOP, run, tarball, version, when
 
 BUILDER = TOP / "bindings/js/build.mjs"
 
@@ -22,17 +22,17 @@ def pack(module, program, file, epoch):
         root = Path(scratch) / "package"
         run("node", str(BUILDER), str(module), str(root), *([str(program)] if program else []))
         if program:
-            packages = ["libstd-rust-dev-wasm32", "wasi-libc", *plain.packages(plain.WASI)]
+            packages = ["libstd-rust-dev-wasm32", "wasi-libc", *plain_builds.packages(plain_builds.WASI)]
             (root / "bin/LICENCES").write_text("\n".join(f"==== {name}\n\n{text}" for name, text in of_debian(packages).items()))
         tarball(root, file, epoch)
 
 
 def program():
     """Builds the program for WASI, if its tools are there."""
-    lacking = plain.lacking(plain.WASI)
+    lacking = plain_builds.lacking(plain_builds.WASI)
     if lacking:
         print(f"dist: the package for JavaScript has no program: install {' '.join(lacking)}")
-    return None if lacking else plain.program(plain.WASI)
+    return None if lacking else plain_builds.program(plain_builds.WASI)
 
 
 def build(epoch):

@@ -6,7 +6,7 @@ import sys
 import tempfile
 from pathlib import Path
 
-from packing import KIT, LINKED, copy_tracked, run
+from common import KIT, LINKED, copy_tracked, run
 
 # The licence of capvet itself.
 OWN = """Format: https://www.debian.org/doc/packaging-manuals/copyright-format/1.0/

@@ -3,8 +3,8 @@ import shutil
 import sys
 
 import licences
-import pages
-from packing import BINDINGS, BUILT, DIST, HERE, TOP, copy_program, copy_tracked, entries, install, shared, tarball, version
+import shipped_pages
+from common import BINDINGS, BUILT, DIST, HERE, TOP, copy_program, copy_tracked, entries, install, shared, tarball, version
 
 # Prefix of the staged tree. It doesn't stay in any file of the archive.
 STAGED = "/staged-capvet"
@@ -50,7 +50,7 @@ def archive(scratch, machine, guard, others, built, epoch):
     if (BUILT / "inspector.html").is_file():
         shutil.copy(BUILT / "inspector.html", root / "share")
     shutil.copy(HERE / "Containerfile", root)
-    pages.write(root, "archive", {"machine": machine.name, "processor": machine.processor})
+    shipped_pages.write(root, "archive", {"machine": machine.name, "processor": machine.processor})
     licences_of(root / "licences", guard is not None)
     (root / "BUILT").write_text(built)
     tarball(root, DIST / f"{root.name}.tar.gz", epoch)

@@ -8,7 +8,7 @@ import tempfile
 import zipfile
 from pathlib import Path
 
-from packing import DIST, TOP, copy_tracked, run, tarball, version
+from common import DIST, TOP, copy_tracked, run, tarball, version
 
 # The oldest C library that a wheel works with, as its tag says.
 LIBC = (2, 17)

@@ -368,11 +368,21 @@ func fuzzExplain(t *testing.T, b []byte, vetted error) {
 	start := ""
 	if path != "" {
 		place, word := placeOf(b, refusal.Position)
-		start = fmt.Sprintf("  path %s\n  byte %d of the message\n  pointer %x ", path, place, word)
+		start = fmt.Sprintf("  path %s\n  byte %d of the message\n  pointer %x ", shown(path), place, word)
 	}
 	if !strings.HasPrefix(lines, start) {
 		t.Fatalf("%q does not begin with %q", lines, start)
 	}
+}
+
+// shown returns a path as a line has it: of more than 24 steps the first and the last 8.
+func shown(path string) string {
+	steps := strings.Split(path, "/")[1:]
+	if len(steps) <= 24 {
+		return path
+	}
+	first, last := strings.Join(steps[:8], "/"), strings.Join(steps[len(steps)-8:], "/")
+	return fmt.Sprintf("/%s/.. %d steps ../%s", first, len(steps)-16, last)
 }
 
 // placeOf returns the place in bytes of a position in a message, and the word there.

@@ -4,7 +4,7 @@
 // MODULE is build/capvet.wasm. The folder gets the files that package.json names, package.json itself and README.md. Among them
 // is capvet-inlined.js: the whole package as one file, with the module in it as base64. It imports nothing and loads nothing.
 //
-// PROGRAM is the program as a module for WASI, which packaging/plain.py builds. Without it the package has only the library.
+// PROGRAM is the program as a module for WASI, which packaging/plain_builds.py builds. Without it the package has only the library.
 import { cpSync, mkdirSync, readFileSync, writeFileSync } from "node:fs";
 import { join } from "node:path";
 import { fileURLToPath } from "node:url";

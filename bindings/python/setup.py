@@ -12,8 +12,8 @@ sys.path.insert(0, str(HERE))
 from capvet_build import Build  # noqa: E402
 
 # What the tests share with others of the repository.
-SHARED = ("examples/*.bin", "examples/contacts.packed", "include/capvet.h", "tests/browser.py", "tests/made.py",
-          "tests/model.py", "tests/needs.py", "tests/trees.py")
+SHARED = ("examples/*.bin", "examples/contacts.packed", "include/capvet.h", "tests/shared/browser.py", "tests/shared/made.py",
+          "tests/shared/model.py", "tests/shared/needs.py", "tests/shared/trees.py")
 # The page that `python -m capvet map` fills, where `make inspector` has built it.
 PAGE = HERE.parents[1] / "build/inspector.html"
 

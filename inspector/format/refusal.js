@@ -22,7 +22,7 @@ export function pathOf(steps) {
 
 /** A line of an explanation: its name, which is its first word or one of these, and the rest. */
 function lineOf(text) {
-  const [, name, rest] = /^ {2}(leads into|charge up to here|\w+) (.*)$/.exec(text);
+  const [, name, rest] = /^ {2}(leads into|charge up to here|\w+):? (.*)$/.exec(text);
   return { name, text: rest };
 }
 

@@ -417,6 +417,14 @@ static void check_texts(fuzz_input *in) {
   if (answer == CAPVET_BAD_PATH) RULE(report.detail == (steps[0].kind > 1 ? 0 : steps[1].kind > 1 ? 1 : 2));
 }
 
+/* A path as a line has it: of more than 24 steps the first and the last 8. */
+static size_t shown_text_of(const capvet_step *steps, size_t count, char *text) {
+  if (count <= 24) return text_of(steps, count, text);
+  size_t length = text_of(steps, 8, text);
+  length += (size_t)sprintf(text + length, "/.. %zu steps ..", count - 16);
+  return length + text_of(steps + count - 8, 8, text + length);
+}
+
 /* The path to the pointer that a refusal names. */
 static void check_path_line(const fuzz_input *in, const capvet_report *report, const char *text) {
   static char line[16 * CAPVET_MAX_DEPTH];
@@ -426,7 +434,7 @@ static void check_path_line(const fuzz_input *in, const capvet_report *report, c
   const capvet_answer found = capvet_pointer_path(in->bytes, in->length, &in->limits, report->pointers, steps,
                                                   CAPVET_MAX_DEPTH, &count, &again);
   RULE(found == CAPVET_OK && count <= CAPVET_MAX_DEPTH);
-  const size_t length = text_of(steps, count, line);
+  const size_t length = shown_text_of(steps, count, line);
   RULE(memcmp(text, "  path ", 7) == 0 && memcmp(text + 7, line, length) == 0 && text[7 + length] == '\n');
 }
 

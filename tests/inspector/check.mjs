@@ -41,6 +41,13 @@ function nodeAt(message, path) {
   return node;
 }
 
+/** A path as a line has it: of more than 24 steps the first and the last 8. */
+function shown(path) {
+  const steps = path.split("/").slice(1);
+  if (steps.length <= 24) return path;
+  return `/${steps.slice(0, 8).join("/")}/.. ${steps.length - 16} steps ../${steps.slice(-8).join("/")}`;
+}
+
 function wordAt(message, path) {
   return nodeAt(message, path).at;
 }
@@ -118,7 +125,7 @@ function checkRefused(it, message, verdict, text) {
   check("a circle", facts.every((fact) => fact.name !== "circle" || isCircle(message, fact)), it);
   check("each pad is a fact with a word", facts.every(({ name, at }) => name !== "pad" || at !== null), it);
   check("the place", message.place(way.at) === place, it);
-  check("the path", wordAt(message, path) === way.at && (reason === "Overlap" || text.startsWith(`  path ${path}\n`)), it);
+  check("the path", wordAt(message, path) === way.at && (reason === "Overlap" || text.startsWith(`  path ${shown(path)}\n`)), it);
   const followedWay = followed(message, way);
   if (!OTHERS.has(reason)) check("the reason", (followedWay.reason ?? laxForm(message, followedWay.found)) === reason, it);
   const charge = way.charge + followedWay.found.charge;

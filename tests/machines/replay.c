@@ -1,5 +1,5 @@
 /* Makes the calls that standard input describes, and writes what each one left: its answer, and the bytes that are asked for.
- * tests/machines.py describes the form of the input. The same program for other processors has to write the same. */
+ * tests/machines/machines.py describes the form of the input. The same program for other processors has to write the same. */
 #include <capvet.h>
 
 #include <stdio.h>

@@ -1,4 +1,4 @@
-// A server and a client over ez-rpc, without capvet. tests/rpc.py puts examples/rpc-guard.sh between them.
+// A server and a client over ez-rpc, without capvet. tests/network/socat_proxy.py puts examples/rpc-guard.sh between them.
 //
 //     ez serve            serves the calculator of examples/cpp on loopback, and prints its port
 //     ez call ADDRESS     makes calls of each kind, and prints their results

@@ -1,4 +1,4 @@
-// What may not compile: each line with a mark has an error with that word, and no other line has one. tests/before_readers.py
+// What may not compile: each line with a mark has an error with that word, and no other line has one. tests/readers/before_readers.py
 // compiles it by each compiler.
 #include <capvet/kj-server.h>
 

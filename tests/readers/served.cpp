@@ -1,4 +1,4 @@
-// Servers of RPC on loopback, for tests/attacks.py.
+// Servers of RPC on loopback, for tests/network/attacks.py.
 //
 //     served serve WAY SECONDS CONNECTIONS PACED IDLE
 //     served frames CALLS ROWS

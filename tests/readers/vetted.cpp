@@ -19,6 +19,7 @@
 #include <string.h>
 
 #include <string>
+#include <vector>
 
 #include "refusal.h"
 #include "walk.h"
@@ -103,11 +104,23 @@ std::string lineOf(kj::ArrayPtr<const kj::byte> bytes, EveryCapability &caps) {
   return line;
 }
 
+// A path as a line has it: of more than 24 steps the first and the last 8.
+std::string shown(kj::StringPtr path) {
+  const std::string whole = path.cStr();
+  std::vector<size_t> steps;
+  for (size_t at = 0; at < whole.size(); at++) {
+    if (whole[at] == '/') steps.push_back(at);
+  }
+  if (steps.size() <= 24) return whole;
+  return whole.substr(0, steps[8]) + "/.. " + std::to_string(steps.size() - 16) + " steps .." + whole.substr(steps[steps.size() - 8]);
+}
+
 // The text of a refusal, with the lines that explain it. A copy that outlives the bytes has the same.
 std::string explained(const capvet::Refusal &refusal) {
   const auto lines = refusal.explain();
   if (refusal.clone()->explain() != lines) return "a copy has other lines";
-  const auto path = kj::str("  path ", refusal.path(), "\n"), earlier = kj::str("first used by ", refusal.earlierPath(), " at ");
+  const auto path = kj::str("  path ", shown(refusal.path()).c_str(), "\n");
+  const auto earlier = kj::str("first used by ", shown(refusal.earlierPath()).c_str(), " at ");
   const bool hasPath = refusal.path().size() == 0 || lines.startsWith(path);
   const bool hasEarlier =
       refusal.answer != CAPVET_OVERLAP || refusal.earlierPath().size() == 0 || strstr(lines.cStr(), earlier.cStr()) != nullptr;

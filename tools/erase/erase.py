@@ -23,7 +23,7 @@ from tokens import Refused, Token, tokens_of, without
 
 TOP = Path(__file__).resolve().parent.parent.parent
 HERE = Path(__file__).resolve().parent
-LIBRARY = ("cap_spec", "cap_words", "cap_path", "cap_frame", "cap_pack", "cap_ptr", "cap_vet", "cap_trace", "cap_canon",
+LIBRARY = ("cap_spec", "cap_words", "cap_path", "cap_buffer", "cap_frame", "cap_pack", "cap_ptr", "cap_walk", "cap_vet", "cap_trace", "cap_canon",
            "cap_difference", "cap_explain", "cap_calls")
 
 
@@ -42,13 +42,13 @@ PACKAGES = (
     Package("rust/core", LIBRARY, ("src/lib.rs", "src/rattle.rs"),
             {"convert": "core::convert", "fmt": "core::fmt", "io": "std::io", "alloc": "crate::rattle::alloc"},
             {"Vec": "crate::rattle"},
-            {name: f"crate::{name}" for name in LIBRARY}),
+            {**{name: f"crate::rattle::{name}" for name in ("hex", "itoa")}, **{name: f"crate::{name}" for name in LIBRARY}}),
     Package("rust/capvet-cli", ("cap_text", "cap_run", "cap_commands", "cap_cmd", "capvet"),
             ("src/main.rs", "src/clap.rs", "src/closed.rs", "src/rattle.rs"),
             {"alloc": "capvet_core::rattle::alloc", "{": "crate::rattle::{",
              **{name: f"crate::rattle::{name}" for name in ("env", "fs", "io", "process")}},
             {"Vec": "capvet_core::rattle", **{name: "crate::rattle" for name in ("String", "HostRuntime", "format", "eprintln")}},
-            {"clap": "crate::clap", **{name: f"crate::rattle::{name}" for name in ("hex", "itoa", "sha2")},
+            {"clap": "crate::clap", "sha2": "crate::rattle::sha2",
              **{name: f"capvet_core::{name}" for name in LIBRARY},
              **{name: f"crate::{name}" for name in ("cap_text", "cap_run", "cap_commands", "cap_cmd")}}),
 )

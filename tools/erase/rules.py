@@ -81,6 +81,7 @@ RULES = (
     Rule("bound `Drop` of a `where`", "the same", "where $name : Drop , {", "{"),
     Rule("import of `Model`", "it says what contracts see of a type", "use std :: marker :: Model ;"),
     Rule("`impl Model`", "it has ghost members alone", "impl Model for $*type { }"),
+    Rule("`impl Model` for each size", "the same", "impl < const N : usize > Model for $*type { }"),
     Rule("`clone` with a result", "Rust's has none; these values are `Copy`",
          "-> Result < $*type , AllocError > { Ok ( * self ) }", "-> $*type { *self }"),
     Rule("module of vectors", "stable Rust has none", "pub mod vectors ;"),

@@ -4,10 +4,10 @@
  *
  * SHAPE is `chain`: structs of one pointer, each to the next one. Or it is `tree`: a binary tree of structs of two
  * pointers. Or it is `list`: a list of structs, each of a text and a null pointer. Or it is `far`: a struct of far
- * pointers, each to a pad of one word before a struct of a data word. Or it is `caps`: a struct of capabilities. COUNT
- * is the number of structs or of capabilities, at most 2047. The last pointer in preorder leads out of its segment. The line has the least times of both calls over the
- * rounds, in nanoseconds. In each round they are timed in turn. The status is 1 where a call doesn't answer what it has
- * to. */
+ * pointers, each to a pad of one word before a struct of a data word. Or it is `caps`: a struct of capabilities. Or it
+ * is `nulls`: a list of null pointers. COUNT is the number of structs, of capabilities or of null pointers, at most 2047.
+ * The last pointer in preorder leads out of its segment. The line has the least times of both calls over the rounds, in
+ * nanoseconds. In each round they are timed in turn. The status is 1 where a call doesn't answer what it has to. */
 #define _POSIX_C_SOURCE 199309L
 #include <capvet.h>
 #include <stdio.h>
@@ -57,6 +57,13 @@ static uint64_t write_list(uint64_t count, uint64_t *segment) {
   return texts + count;
 }
 
+/* Writes the words of a list of null pointers and of one more pointer. Gives how many words. */
+static uint64_t write_nulls(uint64_t count, uint64_t *segment) {
+  memset(segment, 0, 8 * (2 + count));
+  segment[0] = 1 | (uint64_t)6 << 32 | (1 + count) << 35;
+  return 2 + count;
+}
+
 /* Writes the words of a struct of pointers, each far to its pad in the second segment or a capability. */
 static void write_row(int is_far, uint64_t count, uint64_t *segment) {
   uint64_t *second = segment + 1 + count;
@@ -80,9 +87,12 @@ static size_t write_segments(int is_far, uint64_t count) {
 /* Writes the frame. Gives its length in bytes. */
 static size_t write_frame(const char *shape, uint64_t count) {
   const int is_list = strcmp(shape, "list") == 0, is_far = strcmp(shape, "far") == 0;
+  const int is_nulls = strcmp(shape, "nulls") == 0;
   if (is_far || strcmp(shape, "caps") == 0) return write_segments(is_far, count);
   const uint64_t each = strcmp(shape, "tree") == 0 ? 2 : 1;
-  const uint64_t words = is_list ? write_list(count, frame + 1) : write_structs(each, count, frame + 1);
+  const uint64_t words = is_list    ? write_list(count, frame + 1)
+                         : is_nulls ? write_nulls(count, frame + 1)
+                                    : write_structs(each, count, frame + 1);
   const uint64_t last = is_list ? 2 + 2 * count : words - 1;
   frame[0] = words << 32;
   frame[1 + last] = to_struct(last, words + 1, 1);

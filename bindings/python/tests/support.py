@@ -16,7 +16,7 @@ import capvet
 HERE = Path(__file__).resolve()
 # (in a source distribution the files of the repository are below this folder)
 TOP = HERE.parent / "shared" if (HERE.parent / "shared").exists() else HERE.parents[3]
-sys.path.insert(0, str(TOP / "tests"))
+sys.path.insert(0, str(TOP / "tests/shared"))
 from made import changed, made_up, samples  # noqa: E402
 
 PROGRAM = os.environ.get("CAPVET_PROGRAM") or shutil.which("capvet") or str(TOP / "build/capvet")

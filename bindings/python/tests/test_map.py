@@ -12,7 +12,7 @@ from capvet.mapping import PAGE
 from support import STRICT, TOP, program
 from test_tree import capvet as run
 
-# (these are of tests/, which support.py has put on the path)
+# (these are of tests/shared, which support.py has put on the path)
 import needs
 from browser import SECONDS, Browser
 

@@ -11,7 +11,7 @@ import pytest
 
 from support import FILES, LAX, TOP, framed, many, program
 
-import needs  # (of tests/, which support.py has put on the path)
+import needs  # (of tests/shared, which support.py has put on the path)
 
 GUESS = re.compile(rb"^( *\w+ list 2 \d+) guess (\".*\")$", re.M)
 

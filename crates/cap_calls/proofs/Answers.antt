@@ -8,11 +8,11 @@ use Rattle.cap_frame.specs.Framed.{ReportsFront}
 use Rattle.cap_frame.specs.declared.fault.FrontFault.TheVariants.{TooLarge, TooManySegments, Truncated}
 use Rattle.cap_frame.proofs.FrontAnswers.{empty_answer, large_answer, many_answer, short_answer, whole_answer}
 use Rattle.cap_vet.specs.VetNames.{IsDemandFault, Meets, words_under, IsAccepted}
-use Rattle.cap_vet.proofs.OneReport.{one_report}
+use Rattle.cap_walk.proofs.OneReport.{one_report}
 use Rattle.cap_calls.specs.CallFindings.{Returns, accepted, without}
 use Rattle.cap_calls.specs.Calls.{IsCheck, ReportsCheck, ReportsFrame}
 use Rattle.cap_calls.specs.CallNames.{StrictRefusal, ManySegments, Pointer, FrontFault, Framed, Demands, Report, Judges}
-use Rattle.cap_calls.specs.CallNames.{Reports, ReportsWhole, framed, framed_found, none_found, refused, refused_found, reports}
+use Rattle.cap_calls.specs.CallNames.{ReportsCall, ReportsWhole, framed, framed_found, none_found, refused, refused_found, reports}
 use Rattle.cap_calls.specs.CallNames.{trailing, allows_trailing, demands_of, HasFrame, HasNoFrame, ReportsInput, of_frame}
 use Rattle.cap_calls.specs.CallNames.{of_no_words, of_words, ReportsMessage, ReportsVet, Answer, Found, NoFrame, BadLimits}
 use Rattle.cap_calls.specs.CallNames.{Fault, CallLimits, CallReport}
@@ -85,7 +85,7 @@ message_by_flag {K} {P} l bs f w e t = subst (λ (z : Bool). ReportsWhole (not z
 pub one_reported : {K L S : Type 0} {P Q : List (List ℕ) → ℕ → ℕ → Found → Type 0} (l : CallLimits) (bs : List ℕ)
     (f g : Found) → (K → L → S)
     → ((m : List (List ℕ)) (h k : Found) → P m l.charge l.depth h → Q m l.charge l.depth k → (h ≡ k) × S)
-    → Reports K P l bs f → Reports L Q l bs g → (f ≡ g) × S
+    → ReportsCall K P l bs f → ReportsCall L Q l bs g → (f ≡ g) × S
 one_reported l bs f g both same (without c h e x) (without d k i y) =
     (e ∙ (ap none_found (one_cause l bs c d h k) ∙ sym i), both x y)
 one_reported l bs f g both same (without c h e x) (framed m a b v k q i) = absurd (no_cause l bs c a b m h k)

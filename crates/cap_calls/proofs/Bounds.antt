@@ -6,7 +6,7 @@ use Rattle.cap_frame.specs.Fronts.{IsFront}
 use Rattle.cap_calls.specs.CallFindings.{without}
 use Rattle.cap_calls.specs.CallReports.{cause_input_required}
 use Rattle.cap_calls.specs.Calls.{FindsFrame}
-use Rattle.cap_calls.specs.CallNames.{frame_bound, Reports, ReportsWhole, framed, reports, trailing, HasNoFrame, ReportsInput}
+use Rattle.cap_calls.specs.CallNames.{frame_bound, ReportsCall, ReportsWhole, framed, reports, trailing, HasNoFrame, ReportsInput}
 use Rattle.cap_calls.specs.CallNames.{of_frame, of_no_words, of_words, Found, NoFrame, CallLimits}
 
 -- a frame within the limit, which is in the bytes
@@ -27,7 +27,7 @@ frame_inside limit bs m n h =
 cause_short : (l : CallLimits) (bs : List ℕ) (c : NoFrame) → HasNoFrame l bs c → cause_input_required c ≤ frame_bound l.message_words
 cause_short l bs c h = search rules
 
-pub frame_reported : (l : CallLimits) (bs : List ℕ) (f : Found) → Reports ⊤ FindsFrame l bs f
+pub frame_reported : (l : CallLimits) (bs : List ℕ) (f : Found) → ReportsCall ⊤ FindsFrame l bs f
     → (f.report.input_required ≤ frame_bound l.message_words) × (f.report.length ≤ frame_bound l.message_words)
 frame_reported l bs f (without c h e k) = search (rules, cause_short)
 frame_reported l bs f (framed m x y g h p e) =

@@ -5,7 +5,7 @@ use Rattle.cap_spec.proofs.ProofNames.{length, length-append, not, subst, sum, s
 use Rattle.cap_spec.proofs.ProofNames.{◌≡◌, ◌≤◌, sizes_of, IsFirstCap, plain_text, plain_words}
 use Rattle.cap_spec.proofs.ProofNames.{rules}
 use Rattle.cap_spec.proofs.Strict.Unamplified.{within_both}
-use Rattle.cap_vet.specs.Reports.{IsFirstCapOf}
+use Rattle.cap_walk.specs.Reports.{IsFirstCapOf}
 use Rattle.cap_canon.specs.CopyBuffers.{ReportsBuffer}
 use Rattle.cap_canon.specs.declared.fault.BufferFault.{BufferFault}
 use Rattle.cap_canon.proofs.Copies.{cap_no_copy, copy_charged}

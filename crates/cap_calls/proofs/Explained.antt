@@ -4,23 +4,21 @@ use Rattle.std.proofs.Common.{Bool, List, None, Option, [], ap, arith, inl, inr,
 use Rattle.std.specs.Prelude.{⊤}
 use Rattle.cap_spec.specs.declared.Lax.{Lax}
 use Rattle.cap_spec.specs.declared.Reason.{Reason}
-use Rattle.cap_spec.specs.declared.Refusal.{Refusal}
-use Rattle.cap_spec.specs.declared.StrictRefusal.TheVariants.{Refused}
-use Rattle.cap_vet.specs.Demands.{IsDemandFault, words_under}
-use Rattle.cap_vet.specs.Limits.{depth_of, words_of}
-use Rattle.cap_vet.specs.declared.limits.Limits.{Limits}
-use Rattle.cap_explain.specs.Charges.{ChargeOf}
-use Rattle.cap_explain.specs.declared.numbers.Numbers.{Numbers}
-use Rattle.cap_explain.proofs.Charges.{OnePath, charge_is, one_fault_charge}
+use Rattle.cap_walk.specs.Demands.{IsDemandFault, words_under}
+use Rattle.cap_explain.specs.Cycles.{IsFaultCycle}
+use Rattle.cap_explain.proofs.Charges.{one_fault_charge}
+use Rattle.cap_explain.proofs.Cycles.{one_fault_cycle}
 use Rattle.cap_trace.specs.NamedPaths.{fault_path}
 use Rattle.cap_explain.specs.Explaining.{explanation}
+use Rattle.cap_explain.specs.FaultLines.{fault_lines, fault_numbers}
+use Rattle.cap_explain.proofs.FaultLines.{one_path_of}
 use Rattle.cap_trace.proofs.Named.{one_path}
-use Rattle.cap_vet.proofs.OneReport.{one_report}
+use Rattle.cap_walk.proofs.OneReport.{one_report}
 use Rattle.cap_calls.specs.AnswerNumbers.{lax_answer}
 use Rattle.cap_calls.specs.CallFindings.{without}
 use Rattle.cap_calls.specs.ExplainCalls.{FindsFewLines, FindsLines, PutsText, ReportsExplanation, accepted, explained}
-use Rattle.cap_calls.specs.ExplainCalls.{fault_lines, fault_numbers, frame_line, uncounted, written}
-use Rattle.cap_calls.specs.CallNames.{Step, StrictRefusal, Demands, Judges, Report, ReportsWhole, accepted_found, framed, refused_found}
+use Rattle.cap_calls.specs.ExplainCalls.{frame_line, uncounted, written}
+use Rattle.cap_calls.specs.CallNames.{Step, StrictRefusal, Demands, Judges, ReportsWhole, accepted_found, framed, refused_found}
 use Rattle.cap_calls.specs.CallNames.{reports, trailing, allows_trailing, demands_of, has_no_table, of_frame, of_no_words, of_words}
 use Rattle.cap_calls.specs.CallNames.{IsGood, ReportsInput, ReportsVet, Answer, Found, CallLimits, CallReport}
 use Rattle.cap_calls.specs.CallNames.{reason_answer, refusal_answer, Good}
@@ -31,43 +29,34 @@ use Rattle.cap_calls.specs.CallFindings as finding
 one_put : (text old : List ℕ) (n k : ℕ) (xs ys : List ℕ) → PutsText text old n xs → PutsText text old k ys → (n ≡ k) × (xs ≡ ys)
 one_put text old n k xs ys h j = search rules
 
--- a refusal names one path
-one_path_of : (demands : Demands) (m : List (List ℕ)) (words depth : ℕ) (r : Refusal) → OnePath m (words_under demands m words) depth r
-one_path_of demands m words depth r k f = search (rules, one_path demands m words depth (Refused r) (inr k) (inr f))
-
--- the numbers of a fault
-pub same_numbers : (has_table : Bool) (demands : Demands) (m : List (List ℕ)) (words depth : ℕ) (fault : StrictRefusal)
-    (h : IsDemandFault demands m words depth fault) (within : Limits) (k : Numbers)
-    → words_of within ≡ words_under demands m words → depth_of within ≡ depth → k.words ≡ words_of within → k.depth ≡ depth_of within
-    → ChargeOf m (words_of within) (depth_of within) fault k.charge → k.has_table ≡ has_table → k.start ≡ None
-    → k ≡ fault_numbers has_table demands m words depth fault h
-same_numbers has_table demands m words depth fault h within k w d kw kd c t s =
-    search (rules, charge_is demands m words depth fault (one_path_of demands m words depth) h k.charge, one_path_of demands m words depth)
-
 module _ (has_table : Bool) (demands : Demands) (m : List (List ℕ)) (words depth : ℕ) where
   -- A fault has one explanation.
   one_explanation : (r q : StrictRefusal) → r ≡ q → (h : IsDemandFault demands m words depth r)
-      (k : IsDemandFault demands m words depth q)
-      → fault_lines has_table demands m words depth r h ≡ fault_lines has_table demands m words depth q k
+      (k : IsDemandFault demands m words depth q) (a b : Option ℕ) → IsFaultCycle demands m words depth r h a
+      → IsFaultCycle demands m words depth q k b
+      → fault_lines has_table demands m words depth r h a None ≡ fault_lines has_table demands m words depth q k b None
   one_explanation r q e =
       subst (λ (u : StrictRefusal). (h : IsDemandFault demands m words depth r) (k : IsDemandFault demands m words depth u)
-      → fault_lines has_table demands m words depth r h ≡ fault_lines has_table demands m words depth u k) e
-      (λ h k. ap (λ (path : Option (List Step)). explanation path m r (fault_numbers has_table demands m words depth r h))
+      (a b : Option ℕ) → IsFaultCycle demands m words depth r h a → IsFaultCycle demands m words depth u k b
+      → fault_lines has_table demands m words depth r h a None ≡ fault_lines has_table demands m words depth u k b None) e
+      (λ h k a b x y. ap (λ (path : Option (List Step)). explanation path m r (fault_numbers has_table demands m words depth r h a None))
       (one_path demands m words depth r h k)
       ∙ ap (λ (charge : Option ℕ). explanation (fault_path demands m words depth r k) m r
-      (record { words = words_under demands m words; depth = depth; charge = charge; has_table = has_table; start = None }))
-      (one_fault_charge demands m words depth r (one_path_of demands m words depth) h k))
+      (record { words = words_under demands m words; depth = depth; charge = charge; cycle = a; has_table = has_table; start = None }))
+      (one_fault_charge demands m words depth r (one_path_of demands m words depth) h k)
+      ∙ ap (λ (cycle : Option ℕ). fault_lines has_table demands m words depth r k cycle None)
+      (one_fault_cycle demands m words depth r (one_path_of demands m words depth) h k a b x y))
 
   one_lines : (old x y : List ℕ) (n k : ℕ) (f g : Found) → FindsLines has_table old n x demands m words depth f
       → FindsLines has_table old k y demands m words depth g → (f ≡ g) × ((n ≡ k) × (x ≡ y))
-  one_lines old x y n k f g (explained r h t e) (explained q j u i) =
+  one_lines old x y n k f g (explained r h l c t e) (explained q j v d u i) =
       let same = one_demand_fault demands m words depth r q h j in
-      let text = one_explanation r q same h j in (
+      let text = one_explanation r q same h j l v c d in (
         e ∙ ap refused_found same ∙ sym i,
-        one_put (fault_lines has_table demands m words depth q j) old n k x y (subst (λ z. PutsText z old n x) text t) u,
+        one_put (fault_lines has_table demands m words depth q j v None) old n k x y (subst (λ z. PutsText z old n x) text t) u,
       )
-  one_lines old x y n k f g (explained r h t e) (accepted q j o i c d) = absurd (meets_no_fault demands m words depth r o h)
-  one_lines old x y n k f g (accepted r h o e a b) (explained q j u i) = absurd (meets_no_fault demands m words depth q o j)
+  one_lines old x y n k f g (explained r h l z t e) (accepted q j o i c d) = absurd (meets_no_fault demands m words depth r o h)
+  one_lines old x y n k f g (accepted r h o e a b) (explained q j l z u i) = absurd (meets_no_fault demands m words depth q o j)
   one_lines old x y n k f g (accepted r h o e a b) (accepted q j v i c d) =
       let same = one_report m (words_under demands m words) depth r q h j in
       (e ∙ ap (accepted_found Good 0) same ∙ sym i, (a ∙ sym c, b ∙ sym d))
@@ -75,7 +64,7 @@ module _ (has_table : Bool) (demands : Demands) (m : List (List ℕ)) (words dep
   -- The lines are those of a verdict.
   pub lines_judged : (old new : List ℕ) (n : ℕ) (f : Found) → FindsLines has_table old n new demands m words depth f
       → Judges demands ⊤ IsGood m words depth f
-  lines_judged old new n f (explained r h t e) = finding.refused r h e tt
+  lines_judged old new n f (explained r h l c t e) = finding.refused r h e tt
   lines_judged old new n f (accepted r h o e a b) = finding.accepted r h o e
 
 -- So the call returns and reports what the call that vets does.
@@ -112,7 +101,7 @@ no_refusal_line r = search (rules, no_reason_line, no_lax_line)
 
 no_line : (has_table : Bool) (demands : Demands) (m : List (List ℕ)) (words depth : ℕ) (old new : List ℕ) (n : ℕ) (f : Found)
     → FindsLines has_table old n new demands m words depth f → frame_line f.answer ≡ []
-no_line has_table demands m words depth old new n f (explained r h t e) =
+no_line has_table demands m words depth old new n f (explained r h l c t e) =
     ap (λ (z : Found). frame_line z.answer) e ∙ no_refusal_line r
 no_line has_table demands m words depth old new n f (accepted r h o e a b) = ap (λ (z : Found). frame_line z.answer) e
 

@@ -5,7 +5,7 @@ use Rattle.cap_spec.proofs.ProofNames.{◌∙◌, ◌≡◌, ◌≤◌, leb_tell
 use Rattle.std.specs.Prelude.{false, slice_range}
 use Rattle.cap_frame.specs.Fronts.{IsFront}
 use Rattle.cap_calls.specs.CallFindings.{without}
-use Rattle.cap_calls.specs.CallNames.{Reports, ReportsWhole, framed, reports, trailing, HasFrame, Answer, Good, Found}
+use Rattle.cap_calls.specs.CallNames.{ReportsCall, ReportsWhole, framed, reports, trailing, HasFrame, Answer, Good, Found}
 use Rattle.cap_calls.specs.CallNames.{CallLimits, CallReport, NoFrame, cause_answer}
 use Rattle.cap_calls.specs.ExtentCalls.{AreSegmentWords, FindsExtents, HasExtents, ReportsExtents, extent_of}
 use Rattle.cap_calls.specs.ExtentCalls.{no_extent, too_small, written}
@@ -15,7 +15,7 @@ use Rattle.cap_calls.proofs.SegmentPlaces.{segment_words}
 
 -- Where bytes may follow, none are an answer of their own.
 pub not_whole : {K : Type 0} {P : List (List ℕ) → ℕ → ℕ → Found → Type 0} (l : CallLimits) (bs : List ℕ) (f : Found)
-    → ReportsWhole false K P l bs f → Reports K P l bs f
+    → ReportsWhole false K P l bs f → ReportsCall K P l bs f
 not_whole l bs f (reports only t) = t
 not_whole l bs f (trailing m x y t h more e k) = absurd (cc t)
 
@@ -59,7 +59,7 @@ few_found old new m g (too_small l e k) = ap (λ (z : Found). z.count) e
 few_found old new m g (written l e k) = ap (λ (z : Found). z.count) e
 
 pub few_extents : (l : CallLimits) (bs : List ℕ) (old new : List CallExtent) (f : Found)
-    → Reports (new ≡ old) (λ m words depth g. FindsExtents old new m g) l bs f → f.count ≤ 512
+    → ReportsCall (new ≡ old) (λ m words depth g. FindsExtents old new m g) l bs f → f.count ≤ 512
 few_extents l bs old new f (without c h e k) = let none : f.count ≡ 0 = ap (λ (z : Found). z.count) e in omega (arith, none)
 few_extents l bs old new f (framed m x y g h p e) =
     let count : f.count ≡ g.count = ap (λ (z : Found). z.count) e in

@@ -6,7 +6,7 @@ use Rattle.cap_vet.specs.Exclusives.{KeepsUnused}
 use Rattle.cap_vet.specs.VetNames.{IsExclusiveFault, IsVetted, marks_of}
 use Rattle.cap_vet.specs.declared.exclusiveness.exclusive_buffer.ExclusiveFault.{ExclusiveFault}
 use Rattle.cap_vet.specs.declared.exclusiveness.exclusive_buffer.ExclusiveFault.TheVariants.{BufferTooSmall, Overlap, Refused}
-use Rattle.cap_vet.proofs.OneReport.{not_both, one_report}
+use Rattle.cap_walk.proofs.OneReport.{not_both, one_report}
 use Rattle.cap_calls.specs.CallFindings.{without}
 use Rattle.cap_calls.specs.ExclusiveCalls.{FindsMarks, KeepsMarks, MarksIn, ReportsExclusive, too_small}
 use Rattle.cap_calls.specs.CallNames.{Demands, Report, ReportsWhole, framed, reports, trailing}

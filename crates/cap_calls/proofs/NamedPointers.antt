@@ -20,15 +20,15 @@ use Rattle.cap_calls.specs.CallLaws.{FindsPlace, HasMessage, NamesPointer, Point
 use Rattle.cap_calls.specs.CallNames.{Reason, Step, StrictRefusal, ManySegments, Pointer, Demands, Report, reason_answer}
 use Rattle.cap_calls.specs.CallNames.{refusal_answer, Judges, framed, framed_found, refused}
 use Rattle.cap_calls.specs.CallNames.{refused_found, reports, trailing, allows_trailing, demands_of, has_no_table}
-use Rattle.cap_calls.specs.CallNames.{HasFrame, HasTrailing, HasWords, ReportsInput, of_frame, of_no_words, of_words}
+use Rattle.cap_calls.specs.CallNames.{HasFrame, HasTrailing, IsSegment, ReportsInput, of_frame, of_no_words, of_words}
 use Rattle.cap_calls.specs.CallNames.{cause_answer, IsGood, Marks, exclusive, overlap, Answer, Found}
 use Rattle.cap_calls.specs.CallNames.{NoFrame, CallLimits, CallReport}
 use Rattle.cap_calls.specs.Calls.{ReportsVet}
 use Rattle.cap_calls.specs.DifferenceCalls.{IsDifferent, ReportsDifference, canonical, different}
 use Rattle.cap_calls.specs.DifferenceNumbers.{reason_number}
-use Rattle.cap_calls.specs.EarlierCalls.{FindsEarlier, ReportsEarlierCall, earlier}
+use Rattle.cap_calls.specs.EarlierCalls.{FindsEarlierCall, ReportsEarlierCall, earlier}
 use Rattle.cap_calls.specs.ExclusiveCalls.{FindsMarks, ReportsExclusive, too_small}
-use Rattle.cap_calls.specs.PointerCalls.{FindsPointer, IsCounted, ReportsPointer, written}
+use Rattle.cap_calls.specs.PointerCalls.{FindsPointer, IsNumberedPath, written}
 use Rattle.cap_calls.proofs.Answers.{no_cause, one_extent}
 use Rattle.cap_calls.proofs.Words.{no_word_cause, one_input}
 use Rattle.cap_calls.specs.EarlierCalls as earlier_call
@@ -39,7 +39,7 @@ use Rattle.cap_difference.specs.declared.reason.DifferenceReason.TheVariants as 
 -- The pointer word at s:w is number n, and a verdict may have this number.
 record IsNamed (m : List (List ℕ)) (words depth s w n : ℕ) : Type 0 where
   path : List Step
-  counted : IsCounted m words depth n path
+  counted : IsNumberedPath m words depth n path
   numbered : IsNumbered m path s w n
 
 -- the demands make no limit higher
@@ -120,7 +120,7 @@ marks_named size demands m words depth g names r within (overlap s w n enough f 
 
 -- and the first pointer that uses a word which another one uses
 earlier_named : (n : ℕ) (m : List (List ℕ)) (words depth : ℕ) (g : Found) → answer.Good ≡ g.answer
-    → FindsEarlier n m words depth g → IsNamed m words depth g.report.segment g.report.word g.report.pointers
+    → FindsEarlierCall n m words depth g → IsNamed m words depth g.report.segment g.report.word g.report.pointers
 earlier_named n m words depth g good (earlier_call.none missing e) = absurd (cc (good, ap (λ (z : Found). z.answer) e))
 earlier_named n m words depth g good (earlier path s w i c h e) =
     let a = c.traceable.numbered in
@@ -147,7 +147,7 @@ earlier_named n m words depth g good (earlier path s w i c h e) =
 data IsNamedIn (l : CallLimits) (bs : List ℕ) (s w n : ℕ) : Type 0 where
   in_frame : IsFalse (has_no_table l) → (m : List (List ℕ)) (x y : ℕ) → HasFrame l bs x y m
       → (not (allows_trailing l) ≡ true → ¬ HasTrailing l bs) → IsNamed m l.charge l.depth s w n → IsNamedIn l bs s w n
-  in_words : IsTrue (has_no_table l) → HasWords l bs → IsNamed (plain_words bs ∷ []) l.charge l.depth s w n
+  in_words : IsTrue (has_no_table l) → IsSegment l bs → IsNamed (plain_words bs ∷ []) l.charge l.depth s w n
       → IsNamedIn l bs s w n
 
 -- So it is of the report of an input, for answers that name a pointer.
@@ -251,10 +251,10 @@ module _ (l : CallLimits) (bs : List ℕ) (f : Found) where
       (marks_named size (demands_of l) m l.charge l.depth g also) h) t
 
   earlier_named_in : (n : ℕ) → answer.Good ≡ f.answer
-      → ReportsInput (not (allows_trailing l)) ⊤ (FindsEarlier n) l bs f
+      → ReportsInput (not (allows_trailing l)) ⊤ (FindsEarlierCall n) l bs f
       → IsNamedIn l bs f.report.segment f.report.word f.report.pointers
   earlier_named_in n good t =
-      named_in {K = ⊤} {P = FindsEarlier n} (λ a. answer.Good ≡ a) l bs f no_cause_good (λ e. cc) good
+      named_in {K = ⊤} {P = FindsEarlierCall n} (λ a. answer.Good ≡ a) l bs f no_cause_good (λ e. cc) good
       (λ m g also h. earlier_named n m l.charge l.depth g also h) t
 
 -- The report says where the pointer is, and its number.

@@ -6,7 +6,7 @@ use Rattle.cap_spec.proofs.ProofNames.{sym, ℕ, ◌+◌, ◌<◌, ◌∙◌, �
 use Rattle.cap_calls.specs.AnswerNumbers.{lax_answer}
 use Rattle.cap_calls.specs.CallNames.{Reason, Step, StrictRefusal, Demands, reason_answer}
 use Rattle.cap_calls.specs.CallNames.{refusal_answer, refused_found, allows_trailing, demands_of, none_node, Gets}
-use Rattle.cap_calls.specs.CallNames.{path_found, AreSteps, EndsRange, GetsRange, ReportsRange, full}
+use Rattle.cap_calls.specs.CallNames.{path_found, AreStepKinds, EndsRange, GetsRange, ReportsRange, full}
 use Rattle.cap_calls.specs.CallNames.{path_after, stops, WritesFirst, Answer, Good, NoNode, Found, CallLimits}
 use Rattle.cap_calls.specs.CallNames.{CallNode, CallReport, CallStep}
 use Rattle.cap_calls.specs.RangeCalls.{IsBadStep, ReportsSteps, bad_limits, bad_steps, range}
@@ -133,7 +133,7 @@ module _ (path : ℕ → List Step) (old : List CallNode) (demands : Demands) (m
 one_bad_step : (steps : List CallStep) (v a b : ℕ) → IsBadStep steps v a → IsBadStep steps v b → a ≡ b
 one_bad_step steps v a b h k = search rules
 
-good_steps : (steps : List CallStep) (v a : ℕ) → AreSteps steps v → IsBadStep steps v a → ⊥
+good_steps : (steps : List CallStep) (v a : ℕ) → AreStepKinds steps v → IsBadStep steps v a → ⊥
 good_steps steps v a are x5 = search rules
 
 module _ (l : CallLimits) (bs : List ℕ) (steps : List CallStep) (v : ℕ) (old : List CallNode) where

@@ -2,7 +2,7 @@
 use Rattle.cap_spec.proofs.ProofNames.{Err, List, None, Ok, Option, Result, Some, [], ap, arith, drop, get_or, length}
 use Rattle.cap_spec.proofs.ProofNames.{refl, subst, suc, sym, take, zero, ℕ, ◌++◌, ◌<◌, ◌∷◌, ◌≡◌, PathFinds, rules}
 use Rattle.cap_vet.specs.PathDemands.{IsPathFault, MeetsOnPath}
-use Rattle.cap_vet.specs.PathWays.{GivesAfter, IsGiven, IsStart}
+use Rattle.cap_vet.specs.GivenPaths.{GivesAfter, IsGiven, IsStart}
 use Rattle.cap_calls.specs.CallNames.{Kind, Step, StrictRefusal, Demands, PathStart, View, path_after, step_after}
 use Rattle.cap_calls.specs.CallNames.{CallStep}
 use Rattle.cap_frame.specs.declared.segments.Segments as segments

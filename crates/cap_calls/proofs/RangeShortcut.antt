@@ -3,20 +3,20 @@ use Rattle.cap_spec.proofs.ProofNames.{rules}
 use Rattle.std.proofs.Common.{List, Ok, Some, [], ap, arith, get_or, length, min, refl, subst, suc, sym, zero, ℕ, ◌*◌}
 use Rattle.std.proofs.Common.{◌++◌, ◌+◌, ◌<◌, ◌∙◌, ◌∷◌, ◌≡◌, ◌≤◌}
 use Rattle.cap_frame.specs.Fronts.{table_words}
-use Rattle.cap_vet.specs.PathWays.{GivesAfter, GivesElement, GivesPointer, IsStart, LeadsToElements, elements_message}
-use Rattle.cap_vet.specs.Taken.{start_of}
+use Rattle.cap_vet.specs.GivenPaths.{GivesAfter, GivesElement, GivesPointer, IsStart, LeadsToElements, elements_message}
+use Rattle.cap_frame.specs.SegmentStarts.{start_of}
 use Rattle.cap_vet.specs.Views.{view_message}
 use Rattle.cap_vet.specs.declared.nodes.struct_elements.StructElements.{StructElements}
 use Rattle.cap_calls.specs.CallNames.{Kind, Step, Item, Ptr, Demands, PathStart, View, kind_node, offset_of, Gets, a_node}
 use Rattle.cap_calls.specs.CallNames.{path_found, path_after, step_after, HasCount, Good, Shortcut, Elements, CallNode}
 use Rattle.cap_calls.specs.CallNames.{CallStep}
-use Rattle.cap_calls.specs.RangeCalls.{step_of}
+use Rattle.cap_calls.specs.RangeCalls.{step_of_kind}
 use Rattle.cap_calls.specs.RangeShortcut.{HasNodeAfter, IsShortcut}
 use Rattle.cap_calls.specs.declared.calls.get_range.Shortcut.TheVariants.{Pointers}
 use Rattle.cap_frame.specs.declared.segments.Segments as segments
 
 -- a step to an element, whose number is none of the highest
-pub item_of : (kind number : ℕ) → 1 ≤ kind → number < 4294967295 → step_of kind number ≡ Item number
+pub item_of : (kind number : ℕ) → 1 ≤ kind → number < 4294967295 → step_of_kind kind number ≡ Item number
 item_of zero number some low = absurd (omega (arith, some))
 item_of (suc kind) number some low = let e : min number 4294967295 ≡ number = omega (arith, low) in ap Item e
 

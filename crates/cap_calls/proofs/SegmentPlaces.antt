@@ -7,8 +7,8 @@ use Rattle.cap_spec.proofs.ProofNames.{◌∷◌, ◌≡◌, ◌≤◌, drop-app
 use Rattle.cap_spec.proofs.ProofNames.{words_from, joined, sizes_of, segment_of, plain_words}
 use Rattle.cap_frame.specs.Fronts.{IsFront, table_words}
 use Rattle.cap_frame.proofs.Parts.{drop_words, take_words}
-use Rattle.cap_vet.specs.Taken.{start_of}
-use Rattle.cap_vet.proofs.Ranges.{all_words, start_within}
+use Rattle.cap_frame.specs.SegmentStarts.{start_of}
+use Rattle.cap_frame.proofs.SegmentStarts.{all_words, start_within}
 use Rattle.cap_calls.specs.CallNodes.{offset_of}
 
 -- a segment of joined ones, from its place on

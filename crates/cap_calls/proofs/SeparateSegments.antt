@@ -1,8 +1,8 @@
 -- The bytes of separate segments decide what the call over them finds.
 use Rattle.cap_spec.proofs.ProofNames.{List, ap, arith, sym, ℕ, ◌*◌, ◌∙◌, ◌≡◌}
 use Rattle.cap_spec.proofs.ProofNames.{⊤, rules}
-use Rattle.cap_calls.specs.CallNames.{framed_found, demands_of, IsGood, ReportsSegments, message, AreSegments}
-use Rattle.cap_calls.specs.CallNames.{ReportsNoSegments, segments_in, words_in, Answer, Found, CallLimits, CallReport}
+use Rattle.cap_calls.specs.CallNames.{framed_found, demands_of, IsGood, ReportsSegmentsCall, message, AreSegments}
+use Rattle.cap_calls.specs.CallNames.{ReportsNoSegments, segments_in, words_of_slices, Answer, Found, CallLimits, CallReport}
 use Rattle.cap_calls.specs.SegmentsCalls.{FindsSegments, bad_limits, no_message, no_segments_found}
 use Rattle.cap_calls.specs.Slices.{AreWhole, IsBadSegment}
 use Rattle.cap_calls.specs.declared.slices.SlicesFault.{SlicesFault}
@@ -39,8 +39,8 @@ one_found l parts f g (message h s v t e) (no_message k b u i) = absurd (not_bot
 one_found l parts f g (message h s v t e) (message k r w u i) =
     let one = (one_judged {S = ⊤} {P = IsGood} {Q = IsGood} (demands_of l) (segments_in parts) l.charge l.depth v w (λ _ _. tt)
     (λ z _ p q. (p ∙ sym q, tt)) t u).0 in
-    e ∙ (ap (framed_found l (8 * words_in parts) (segments_in parts)) one ∙ sym i)
+    e ∙ (ap (framed_found l (8 * words_of_slices parts) (segments_in parts)) one ∙ sym i)
 
-pub one_segments_reported : (l : CallLimits) (parts : List (List ℕ)) (a b : Answer) (r q : CallReport) → ReportsSegments l parts a r
-    → ReportsSegments l parts b q → (a ≡ b) × (r ≡ q)
+pub one_segments_reported : (l : CallLimits) (parts : List (List ℕ)) (a b : Answer) (r q : CallReport) → ReportsSegmentsCall l parts a r
+    → ReportsSegmentsCall l parts b q → (a ≡ b) × (r ≡ q)
 one_segments_reported l parts a b r q (f, t, h) (g, u, k) = one_returned f g a b r q (one_found l parts f g t u) h k

@@ -5,7 +5,7 @@ use Rattle.cap_spec.proofs.ProofNames.{List, [], ap, arith, below_more, get_or, 
 use Rattle.cap_spec.proofs.ProofNames.{◌+◌, ◌/◌, ◌<◌, ◌^◌, ◌∙◌, ◌∷◌, ◌≡◌, ◌≤◌, get_or-map, get_or_default, length-map}
 use Rattle.cap_spec.proofs.ProofNames.{take_more, sum_by-append, sizes_of, IsMessage, capped, plain_words, rules}
 use Rattle.cap_frame.proofs.Cuts.{front_sum}
-use Rattle.cap_calls.specs.Slices.{bytes_of, segments_in, words_in}
+use Rattle.cap_calls.specs.Slices.{bytes_of, segments_in, words_of_slices}
 
 -- no slice
 abbrev pub no_slice : Bor (List ℕ)
@@ -65,7 +65,7 @@ sum_more parts s words more h w e t =
 
 -- each of them is short enough for a segment if their sum is
 pub are_message : (slices : List (Bor (List ℕ))) → 1 ≤ length slices → length slices ≤ 512
-    → words_in (bytes_of slices) ≤ 268435456 → IsMessage (segments_in (bytes_of slices))
+    → words_of_slices (bytes_of slices) ≤ 268435456 → IsMessage (segments_in (bytes_of slices))
 are_message slices some few small =
     let parts = bytes_of slices in
     let m = segments_in parts in

@@ -9,20 +9,20 @@ use Rattle.cap_vet.specs.VetNames.{Meets, words_under, IsAccepted}
 use Rattle.cap_calls.specs.AnswerNumbers.{answer_number}
 use Rattle.cap_calls.specs.CallFindings.{accepted, detail_of, framed_found, without}
 use Rattle.cap_calls.specs.CallFlags.{AllowsMore, allows_nonstrict, charge_limit}
-use Rattle.cap_calls.specs.Slices.{segments_in, words_in}
+use Rattle.cap_calls.specs.Slices.{segments_in, words_of_slices}
 use Rattle.cap_calls.specs.CallInputs.{AreInputLimits, AreWordLimits}
 use Rattle.cap_calls.specs.CallLaws.{RefusesNothing}
-use Rattle.cap_calls.specs.CallNames.{Reason, Step, StrictRefusal, Report, reason_answer, refusal_answer, Judges, Reports}
+use Rattle.cap_calls.specs.CallNames.{Reason, Step, StrictRefusal, Report, reason_answer, refusal_answer, Judges, ReportsCall}
 use Rattle.cap_calls.specs.CallNames.{ReportsWhole, framed, refused, reports, trailing, allows_trailing, demands_of}
-use Rattle.cap_calls.specs.CallNames.{AreLimits, HasFrame, HasTrailing, HasWords, ReportsInput, cause_answer}
+use Rattle.cap_calls.specs.CallNames.{AreLimits, HasFrame, HasTrailing, IsSegment, ReportsInput, cause_answer}
 use Rattle.cap_calls.specs.CallNames.{Answer, Found, NoFrame, CallLimits, CallNode, CallStep, Gets}
 use Rattle.cap_calls.specs.CallNames.{a_node, a_path, bad_path, no_meeting, no_node, none_node, path_found, EndsRange}
 use Rattle.cap_calls.specs.CallNames.{GetsRange, full, path_after, stops, message}
-use Rattle.cap_calls.specs.EarlierCalls.{FindsEarlier, earlier}
+use Rattle.cap_calls.specs.EarlierCalls.{FindsEarlierCall, earlier}
 use Rattle.cap_calls.specs.CallFlags.{has_no_table}
 use Rattle.cap_calls.specs.ExplainCalls.{FindsLines}
-use Rattle.cap_calls.specs.NodeCalls.{ReportsPath, bad_limits}
-use Rattle.cap_calls.specs.PointerCalls.{FindsPointer, IsCounted, too_small, written}
+use Rattle.cap_calls.specs.NodeCalls.{ReportsPathCall, bad_limits}
+use Rattle.cap_calls.specs.PointerCalls.{FindsPointer, IsNumberedPath, too_small, written}
 use Rattle.cap_calls.specs.RangeCalls.{ReportsSteps}
 use Rattle.cap_calls.specs.SegmentsCalls.{FindsSegments, no_message, segments_answer}
 use Rattle.cap_calls.specs.declared.slices.SlicesFault.{SlicesFault}
@@ -145,7 +145,7 @@ module _ (l k : CallLimits) (more : AllowsMore l k) where
   none bs x y m v w good h only t e (n, a, b, g, less) =
       only (t e) (m, x, y, h, subst (λ (z : ℕ). z < length bs) (one_extent k bs a x b y n m g (frame bs x y m good h)).0 less)
 
-  wider_words : (bs : List ℕ) → AreWordLimits k → HasWords l bs → HasWords k bs
+  wider_words : (bs : List ℕ) → AreWordLimits k → IsSegment l bs → IsSegment k bs
   wider_words bs good h = search rules
 
   may_trail : not (allows_trailing k) ≡ true → not (allows_trailing l) ≡ true
@@ -163,7 +163,7 @@ module _ (l k : CallLimits) (more : AllowsMore l k) where
   module _ {K : Type 0} {P Q : List (List ℕ) → ℕ → ℕ → Found → Type 0} (bs : List ℕ) (f : Found)
       (ok : RefusesNothing f.answer)
       (p : (m : List (List ℕ)) (g : Found) → f.answer ≡ g.answer → P m l.charge l.depth g → Q m k.charge k.depth g) where
-    pub reported : AreLimits k → Reports K P l bs f → Reports K Q k bs f
+    pub reported : AreLimits k → ReportsCall K P l bs f → ReportsCall K Q k bs f
     reported good (without c h e i) = absurd (cause_refuses c (subst (λ (z : Found). RefusesNothing z.answer) e ok))
     reported good (framed m x y g h i e) =
         framed m x y g (frame bs x y m good h) (p m g (ap (λ (z : Found). z.answer) e) i) (same_framed x m f g e ok)
@@ -216,7 +216,7 @@ module _ (l k : CallLimits) (more : AllowsMore l k) where
   gets path node m g ok (a_node kind t b n h found e i) = a_node kind t b n (path_meets m path h) found e i
 
   pub path_reported : (bs text : List ℕ) (node : CallNode) (f : Found) → AreLimits k → RefusesNothing f.answer
-      → ReportsPath l bs text node f → ReportsPath k bs text node f
+      → ReportsPathCall l bs text node f → ReportsPathCall k bs text node f
   path_reported bs text node f good ok (bad_limits bad e n) =
       absurd (subst (λ (z : Found). RefusesNothing z.answer) e ok)
   path_reported bs text node f good ok (bad_path at are bad e n) =
@@ -266,11 +266,11 @@ module _ (l k : CallLimits) (more : AllowsMore l k) where
       message good
       (record { some = s.some; few = s.few; whole = s.whole; within = omega (arith, s.within, more.size) })
       g (judged _ g (subst (λ (z : Found). RefusesNothing z.answer) e ok) j)
-      (same_framed (8 * words_in ps) (segments_in ps) f g e ok)
+      (same_framed (8 * words_of_slices ps) (segments_in ps) f g e ok)
 
   -- the path to a pointer, and the earlier pointer of an overlap
-  counted : (m : List (List ℕ)) (n : ℕ) (path : List Step) → IsCounted m l.charge l.depth n path
-      → IsCounted m k.charge k.depth n path
+  counted : (m : List (List ℕ)) (n : ℕ) (path : List Step) → IsNumberedPath m l.charge l.depth n path
+      → IsNumberedPath m k.charge k.depth n path
   counted m n path c =
       record {
         traceable = record {
@@ -291,7 +291,7 @@ module _ (l k : CallLimits) (more : AllowsMore l k) where
   pointer_found n old new m g some (pointer.none missing e i) = absurd (some (ap (λ (z : Found). z.answer) e))
 
   pub earlier_found : (n : ℕ) (m : List (List ℕ)) (g : Found) → (g.answer ≡ answer.NoNode → ⊥)
-      → FindsEarlier n m l.charge l.depth g → FindsEarlier n m k.charge k.depth g
+      → FindsEarlierCall n m l.charge l.depth g → FindsEarlierCall n m k.charge k.depth g
   earlier_found n m g some (earlier path s w i c h e) = earlier path s w i (counted m n path c) h e
   earlier_found n m g some (earlier_call.none missing e) = absurd (some (ap (λ (z : Found). z.answer) e))
 
@@ -307,7 +307,7 @@ module _ (l k : CallLimits) (more : AllowsMore l k) where
   -- the call that also explains
   lines_found : (t u : Bool) (old : List ℕ) (n : ℕ) (new : List ℕ) (m : List (List ℕ)) (g : Found) → RefusesNothing g.answer
       → FindsLines t old n new (demands_of l) m l.charge l.depth g → FindsLines u old n new (demands_of k) m k.charge k.depth g
-  lines_found t u old n new m g ok (lines.explained v h x e) =
+  lines_found t u old n new m g ok (lines.explained v h c r x e) =
       absurd (refusal_refuses v (subst (λ (z : Found). RefusesNothing z.answer) e ok))
   lines_found t u old n new m g ok (lines.accepted v h j e a b) = lines.accepted v (accepts m v h) (meets m j) e a b
 
@@ -329,7 +329,7 @@ module _ (l k : CallLimits) (more : AllowsMore l k) where
 
   -- calls for which the limits of charge and depth have no effect
   pub frame_reported : {K : Type 0} {P : List (List ℕ) → Found → Type 0} (bs : List ℕ) (f : Found) → AreLimits k
-      → RefusesNothing f.answer → Reports K (λ m words depth g. P m g) l bs f → Reports K (λ m words depth g. P m g) k bs f
+      → RefusesNothing f.answer → ReportsCall K (λ m words depth g. P m g) l bs f → ReportsCall K (λ m words depth g. P m g) k bs f
   frame_reported {K} {P} bs f good ok t =
       reported {P = λ m words depth g. P m g} {Q = λ m words depth g. P m g} bs f ok (λ m g e h. h) good t
 
@@ -349,8 +349,8 @@ module _ (l k : CallLimits) (more : AllowsMore l k) where
       (λ m g e h. pointer_found n old new m g (λ z. some (e ∙ z)) h) good t
 
   pub earlier_reported : (n : ℕ) (bs : List ℕ) (f : Found) → AreInputLimits k → RefusesNothing f.answer
-      → (f.answer ≡ answer.NoNode → ⊥) → ReportsInput (not (allows_trailing l)) ⊤ (FindsEarlier n) l bs f
-      → ReportsInput (not (allows_trailing k)) ⊤ (FindsEarlier n) k bs f
+      → (f.answer ≡ answer.NoNode → ⊥) → ReportsInput (not (allows_trailing l)) ⊤ (FindsEarlierCall n) l bs f
+      → ReportsInput (not (allows_trailing k)) ⊤ (FindsEarlierCall n) k bs f
   earlier_reported n bs f good ok some t =
-      flags_reported {P = FindsEarlier n} {Q = FindsEarlier n} bs f ok
+      flags_reported {P = FindsEarlierCall n} {Q = FindsEarlierCall n} bs f ok
       (λ m g e h. earlier_found n m g (λ z. some (e ∙ z)) h) good t

@@ -7,8 +7,8 @@ use Rattle.cap_spec.specs.declared.Refusal.{Refusal}
 use Rattle.cap_spec.specs.declared.StrictRefusal.{StrictRefusal}
 use Rattle.cap_spec.specs.declared.StrictRefusal.TheVariants.{Refused}
 use Rattle.cap_vet.specs.VetNames.{IsDemandFault, Meets, words_under, IsAccepted}
-use Rattle.cap_vet.specs.declared.demands.Demands.{Demands}
-use Rattle.cap_vet.specs.declared.walk.vetting.Report.{Report}
+use Rattle.cap_walk.specs.declared.demands.Demands.{Demands}
+use Rattle.cap_walk.specs.declared.report.Report.{Report}
 use Rattle.cap_calls.specs.AnswerNumbers.{refusal_answer}
 use Rattle.cap_calls.specs.CallFlags.{charge_limit}
 use Rattle.cap_calls.specs.CallFrames.{HasFrame, HasNoFrame, HasTrailing}
@@ -60,12 +60,12 @@ framed_found l frame m f = extent_found frame (length m) (sum (sizes_of m)) (cha
 
 -- The bytes have no frame within the limits, and then something is kept. Or the call finds this of
 -- the message in the frame, within the limits of charge and depth.
-pub data Reports (kept : Type 0) (finds : List (List ℕ) → ℕ → ℕ → Found → Type 0) (l : CallLimits) (bytes : List ℕ)
+pub data ReportsCall (kept : Type 0) (finds : List (List ℕ) → ℕ → ℕ → Found → Type 0) (l : CallLimits) (bytes : List ℕ)
     (f : Found) : Type 0 where
-  without : (cause : NoFrame) → HasNoFrame l bytes cause → f ≡ none_found cause → kept → Reports kept finds l bytes f
+  without : (cause : NoFrame) → HasNoFrame l bytes cause → f ≡ none_found cause → kept → ReportsCall kept finds l bytes f
   framed : (m : List (List ℕ)) (frame segments : ℕ) (g : Found) → HasFrame l bytes frame segments m
       → finds m l.charge l.depth g
-      → f ≡ framed_found l frame m g → Reports kept finds l bytes f
+      → f ≡ framed_found l frame m g → ReportsCall kept finds l bytes f
 
 -- The bytes have to be one message and nothing else, and more bytes follow it; then something is kept.
 -- Or the call reports the same as above.
@@ -75,7 +75,7 @@ pub data ReportsWhole (whole : Bool) (kept : Type 0) (finds : List (List ℕ) �
       → frame < length bytes
       → f ≡ framed_found l frame m (trailing_found (length bytes - frame)) → kept
       → ReportsWhole whole kept finds l bytes f
-  reports : (whole ≡ true → ¬ HasTrailing l bytes) → Reports kept finds l bytes f → ReportsWhole whole kept finds l bytes f
+  reports : (whole ≡ true → ¬ HasTrailing l bytes) → ReportsCall kept finds l bytes f → ReportsWhole whole kept finds l bytes f
 
 -- The message doesn't meet the demands, and then something is kept. Or it is accepted and meets them,
 -- and the call finds this.

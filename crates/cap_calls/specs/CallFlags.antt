@@ -1,7 +1,7 @@
 -- What the flags of a call allow, and the form of its input (profile).
 use Rattle.std.specs.Prelude.{Bool, IsTrue, List, max, min, not, replicate, slice_index, ℕ, ◌%◌, ◌*◌, ◌+◌, ◌/◌, ◌==◌, ◌≡◌, ◌≤◌}
 use Rattle.cap_vet.specs.VetNames.{words_under}
-use Rattle.cap_vet.specs.declared.demands.Demands.{Demands}
+use Rattle.cap_walk.specs.declared.demands.Demands.{Demands}
 use Rattle.cap_calls.specs.declared.limits.CallLimits.{CallLimits}
 
 -- the reserved fields are 0

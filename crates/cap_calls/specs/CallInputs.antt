@@ -23,17 +23,17 @@ pub record AreInputLimits (l : CallLimits) : Type 0 where
   pub words : IsTrue (has_no_table l) → AreWordLimits l
 
 -- why the bytes are no segment within the limits: a part of a word counts as a word
-abbrev pub HasNoWords : CallLimits → List ℕ → NoFrame → Type 0
-HasNoWords l bytes BadLimits = ¬ AreWordLimits l
-HasNoWords l bytes NoMessage = AreWordLimits l × (bytes ≡ [])
-HasNoWords l bytes (Fault (TooManySegments count)) = ⊥
-HasNoWords l bytes (Fault (TooLarge words)) = AreWordLimits l × (8 * l.message_words < length bytes)
+abbrev pub IsNoSegment : CallLimits → List ℕ → NoFrame → Type 0
+IsNoSegment l bytes BadLimits = ¬ AreWordLimits l
+IsNoSegment l bytes NoMessage = AreWordLimits l × (bytes ≡ [])
+IsNoSegment l bytes (Fault (TooManySegments count)) = ⊥
+IsNoSegment l bytes (Fault (TooLarge words)) = AreWordLimits l × (8 * l.message_words < length bytes)
     × (words ≡ (length bytes + 7) / 8)
-HasNoWords l bytes (Fault (Truncated needed)) = AreWordLimits l × (length bytes ≤ 8 * l.message_words)
+IsNoSegment l bytes (Fault (Truncated needed)) = AreWordLimits l × (length bytes ≤ 8 * l.message_words)
     × (0 < length bytes % 8) × (needed ≡ 8 * (length bytes / 8 + 1))
 
 -- The bytes are the words of one segment, within the limits.
-pub record HasWords (l : CallLimits) (bytes : List ℕ) : Type 0 where
+pub record IsSegment (l : CallLimits) (bytes : List ℕ) : Type 0 where
   pub are_limits : AreWordLimits l
   pub some : 0 < length bytes
   pub within : length bytes ≤ 8 * l.message_words
@@ -43,8 +43,8 @@ pub record HasWords (l : CallLimits) (bytes : List ℕ) : Type 0 where
 pub data ReportsInput (whole : Bool) (kept : Type 0) (finds : List (List ℕ) → ℕ → ℕ → Found → Type 0) (l : CallLimits)
     (bytes : List ℕ) (f : Found) : Type 0 where
   of_frame : IsFalse (has_no_table l) → ReportsWhole whole kept finds l bytes f → ReportsInput whole kept finds l bytes f
-  of_no_words : IsTrue (has_no_table l) → (cause : NoFrame) → HasNoWords l bytes cause → f ≡ none_found cause → kept
+  of_no_words : IsTrue (has_no_table l) → (cause : NoFrame) → IsNoSegment l bytes cause → f ≡ none_found cause → kept
       → ReportsInput whole kept finds l bytes f
-  of_words : IsTrue (has_no_table l) → (g : Found) → HasWords l bytes → finds (plain_words bytes ∷ []) l.charge l.depth g
+  of_words : IsTrue (has_no_table l) → (g : Found) → IsSegment l bytes → finds (plain_words bytes ∷ []) l.charge l.depth g
       → f ≡ framed_found l (length bytes) (plain_words bytes ∷ []) g
       → ReportsInput whole kept finds l bytes f

@@ -1,14 +1,13 @@
 -- What the laws of calls speak of: answers that refuse nothing, and the pointer that an answer names (profile).
 use Rattle.std.specs.List.{AllByRecursion}
-use Rattle.std.specs.Prelude.{IsFalse, IsTrue, List, [], drop, false, length, map, take, ℕ, ⊤, ◌++◌, ◌<◌, ◌∷◌, ◌≡◌, ◌≤◌}
+use Rattle.std.specs.Prelude.{IsFalse, IsTrue, List, [], drop, length, map, take, ℕ, ⊤, ◌++◌, ◌<◌, ◌∷◌, ◌≡◌, ◌≤◌}
 use Rattle.std.specs.Prelude.{◌⊎◌}
 use Rattle.cap_spec.specs.Paths.{IsNumbered}
 use Rattle.cap_spec.specs.Plain.{plain_words}
 use Rattle.cap_spec.specs.declared.Step.{Step}
-use Rattle.cap_vet.specs.declared.demands.Demands.{Demands}
 use Rattle.cap_calls.specs.CallFlags.{has_no_table}
 use Rattle.cap_calls.specs.CallFrames.{HasFrame}
-use Rattle.cap_calls.specs.CallInputs.{HasWords}
+use Rattle.cap_calls.specs.CallInputs.{IsSegment}
 use Rattle.cap_calls.specs.CanonicalCalls.{ReportsCopy}
 use Rattle.cap_calls.specs.PointerCalls.{ReportsPointer, call_step}
 use Rattle.cap_calls.specs.declared.answer.Answer.{Answer}
@@ -20,10 +19,6 @@ use Rattle.cap_calls.specs.declared.answer.Answer.TheVariants.{SegmentMissing, T
 use Rattle.cap_calls.specs.declared.limits.CallLimits.{CallLimits}
 use Rattle.cap_calls.specs.declared.report.CallReport.{CallReport}
 use Rattle.cap_calls.specs.declared.step.CallStep.{CallStep}
-
--- no demand
-abbrev pub no_demands : Demands
-no_demands = record { strict = false; unamplified = false }
 
 -- the call refuses neither the frame nor the message, as far as it looks at it
 abbrev pub RefusesNothing : Answer → Type 0
@@ -59,7 +54,7 @@ NamesPointer _ = ⊥
 abbrev pub HasMessage : CallLimits → List ℕ → List (List ℕ) → Type 0
 HasMessage l bytes m =
     (IsFalse (has_no_table l) × ((frame segments : ℕ) × HasFrame l bytes frame segments m))
-    ⊎ (IsTrue (has_no_table l) × HasWords l bytes × (m ≡ plain_words bytes ∷ []))
+    ⊎ (IsTrue (has_no_table l) × IsSegment l bytes × (m ≡ plain_words bytes ∷ []))
 
 -- A call for the path to pointer n in this input: what it is given, and what it returns, writes and reports.
 pub record PointerCall (l : CallLimits) (bytes : List ℕ) (n : ℕ) : Type 0 where

@@ -9,17 +9,17 @@ pub use Rattle.cap_spec.specs.declared.StrictRefusal.TheVariants.{ManySegments, 
 pub use Rattle.cap_frame.specs.declared.fault.FrontFault.{FrontFault}
 pub use Rattle.cap_frame.specs.declared.framed.Framed.{Framed}
 pub use Rattle.cap_frame.specs.declared.byte_message.ByteView.{ByteView}
-pub use Rattle.cap_vet.specs.declared.demands.Demands.{Demands}
+pub use Rattle.cap_walk.specs.declared.demands.Demands.{Demands}
 pub use Rattle.cap_vet.specs.declared.nodes.path_start.PathStart.{PathStart}
 pub use Rattle.cap_vet.specs.declared.nodes.view.View.{View}
-pub use Rattle.cap_vet.specs.declared.walk.vetting.Report.{Report}
+pub use Rattle.cap_walk.specs.declared.report.Report.{Report}
 pub use Rattle.cap_calls.specs.AnswerNumbers.{reason_answer, refusal_answer}
 pub use Rattle.cap_calls.specs.CallBounds.{frame_bound}
-pub use Rattle.cap_calls.specs.CallFindings.{Judges, Reports, ReportsWhole, accepted_found, framed, framed_found}
+pub use Rattle.cap_calls.specs.CallFindings.{Judges, ReportsCall, ReportsWhole, accepted_found, framed, framed_found}
 pub use Rattle.cap_calls.specs.CallFindings.{none_found, refused, refused_found, reports, trailing}
 pub use Rattle.cap_calls.specs.CallFlags.{allows_amplified, allows_trailing, demands_of, has_no_table}
 pub use Rattle.cap_calls.specs.CallFrames.{AreLimits, HasFrame, HasNoFrame, HasTrailing}
-pub use Rattle.cap_calls.specs.CallInputs.{HasWords, ReportsInput, of_frame, of_no_words, of_words}
+pub use Rattle.cap_calls.specs.CallInputs.{IsSegment, ReportsInput, of_frame, of_no_words, of_words}
 pub use Rattle.cap_calls.specs.CallNodes.{kind_node, none_node, offset_of}
 pub use Rattle.cap_calls.specs.CallReports.{cause_answer}
 pub use Rattle.cap_calls.specs.Calls.{IsGood, ReportsMessage, ReportsVet}
@@ -31,11 +31,11 @@ pub use Rattle.cap_calls.specs.NodeCalls.{path_found}
 pub use Rattle.cap_calls.specs.PackCalls.{ReportsText, cut}
 pub use Rattle.cap_calls.specs.PackedStreams.{GivesWords, WritesWords, words_to_come}
 pub use Rattle.cap_calls.specs.PointerCalls.{call_step, steps_found}
-pub use Rattle.cap_calls.specs.RangeCalls.{AreSteps, EndsRange, GetsRange, ReportsRange, full, past, path_after}
+pub use Rattle.cap_calls.specs.RangeCalls.{AreStepKinds, EndsRange, GetsRange, ReportsRange, full, past, path_after}
 pub use Rattle.cap_calls.specs.RangeCalls.{step_after, stops, unknown}
 pub use Rattle.cap_calls.specs.RangeShortcut.{HasCount, IsShortcutNode, WritesFirst}
-pub use Rattle.cap_calls.specs.SegmentsCalls.{ReportsSegments, message}
-pub use Rattle.cap_calls.specs.Slices.{AreSegments, ReportsNoSegments, segments_in, words_in}
+pub use Rattle.cap_calls.specs.SegmentsCalls.{ReportsSegmentsCall, message}
+pub use Rattle.cap_calls.specs.Slices.{AreSegments, ReportsNoSegments, segments_in, words_of_slices}
 pub use Rattle.cap_calls.specs.UnpackingMessages.{Appends, IsOpen, IsState, StopsCall, ReportsUnpackMessage, bad}
 pub use Rattle.cap_calls.specs.UnpackingMessages.{state_of, too_many, truncated, unpacks}
 pub use Rattle.cap_calls.specs.declared.answer.Answer.{Answer}

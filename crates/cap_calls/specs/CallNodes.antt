@@ -4,7 +4,7 @@ use Rattle.cap_spec.specs.Pointers.{element_bits}
 use Rattle.cap_spec.specs.declared.Kind.{Kind}
 use Rattle.cap_spec.specs.declared.Kind.TheVariants.{Cap, Null, Pointers, Scalars, Struct, Structs}
 use Rattle.cap_frame.specs.Fronts.{table_words}
-use Rattle.cap_vet.specs.Taken.{start_of}
+use Rattle.cap_frame.specs.SegmentStarts.{start_of}
 use Rattle.cap_calls.specs.declared.node.CallNode.{CallNode}
 
 -- nothing, and null

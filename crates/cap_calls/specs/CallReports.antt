@@ -3,7 +3,7 @@ use Rattle.std.specs.Prelude.{replicate, unwrap_or, ℕ}
 use Rattle.cap_spec.specs.declared.StrictRefusal.{StrictRefusal}
 use Rattle.cap_spec.specs.declared.StrictRefusal.TheVariants.{ManySegments, Pointer, Refused}
 use Rattle.cap_difference.specs.declared.difference.Difference.{Difference}
-use Rattle.cap_vet.specs.declared.walk.vetting.Report.{Report}
+use Rattle.cap_walk.specs.declared.report.Report.{Report}
 use Rattle.cap_calls.specs.DifferenceNumbers.{reason_number}
 use Rattle.cap_calls.specs.declared.answer.Answer.{Answer}
 use Rattle.cap_calls.specs.declared.front.NoFrame.{NoFrame}

@@ -2,8 +2,8 @@
 -- (profile; standard: Serialization Over a Stream, Canonicalization).
 use Rattle.std.specs.Prelude.{List, not, true, ℕ, ⊤, ◌≡◌}
 use Rattle.cap_spec.specs.Copies.{IsCanonical}
-use Rattle.cap_vet.specs.declared.walk.vetting.Report.{Report}
-use Rattle.cap_calls.specs.CallFindings.{Judges, Returns, Reports, ReportsWhole, accepted_found}
+use Rattle.cap_walk.specs.declared.report.Report.{Report}
+use Rattle.cap_calls.specs.CallFindings.{Judges, Returns, ReportsCall, ReportsWhole, accepted_found}
 use Rattle.cap_calls.specs.CallFlags.{allows_trailing, copy_limits, demands_of}
 use Rattle.cap_calls.specs.CallInputs.{ReportsInput}
 use Rattle.cap_calls.specs.CallReports.{none_report}
@@ -19,7 +19,7 @@ FindsFrame m words depth f = f ≡ record { answer = Good; count = 0; report = n
 
 -- of the frame at the start of the bytes
 abbrev pub ReportsFrame : CallLimits → List ℕ → Answer → CallReport → Type 0
-ReportsFrame l bytes a r = (f : Found) × Reports ⊤ FindsFrame l bytes f × Returns f a r
+ReportsFrame l bytes a r = (f : Found) × ReportsCall ⊤ FindsFrame l bytes f × Returns f a r
 
 -- What a call reports of the message that the bytes are, or by the form start with.
 abbrev pub ReportsMessage : Type 0 → (List (List ℕ) → ℕ → ℕ → Found → Type 0) → CallLimits → List ℕ → Found → Type 0

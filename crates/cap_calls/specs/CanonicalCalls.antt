@@ -2,10 +2,10 @@
 -- (standard: Canonicalization; the order is the profile's).
 use Rattle.std.specs.Prelude.{Err, List, Ok, Result, not, ℕ, ◌≡◌}
 use Rattle.cap_spec.specs.SpecNames.{HasCopy, IsFirstCap, plain_text}
-use Rattle.cap_vet.specs.declared.demands.Demands.{Demands}
-use Rattle.cap_vet.specs.declared.walk.vetting.Report.{Report}
+use Rattle.cap_walk.specs.declared.demands.Demands.{Demands}
+use Rattle.cap_walk.specs.declared.report.Report.{Report}
 use Rattle.cap_canon.specs.declared.fault.BufferFault.{BufferFault}
-use Rattle.cap_calls.specs.CallFindings.{Judges, JudgesAny, Returns, Reports, accepted_found}
+use Rattle.cap_calls.specs.CallFindings.{Judges, JudgesAny, Returns, ReportsCall, accepted_found}
 use Rattle.cap_calls.specs.CallFlags.{allows_trailing, demands_of}
 use Rattle.cap_calls.specs.CallInputs.{ReportsInput}
 use Rattle.cap_calls.specs.CallReports.{accepted_report}
@@ -40,7 +40,7 @@ ReportsCopy l bytes old a n new r =
 -- The same with both flags.
 abbrev pub ReportsAnyCopy : CallLimits → List ℕ → List ℕ → Answer → ℕ → List ℕ → CallReport → Type 0
 ReportsAnyCopy l bytes old a n new r =
-    (f : Found) × Reports (new ≡ old) (JudgesAny (new ≡ old) (FindsCopy old new)) l bytes f × Returns f a r
+    (f : Found) × ReportsCall (new ≡ old) (JudgesAny (new ≡ old) (FindsCopy old new)) l bytes f × Returns f a r
     × (n ≡ f.count)
 
 -- what is found of a message that is accepted, by the result of its copy

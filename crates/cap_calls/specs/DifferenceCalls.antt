@@ -3,7 +3,7 @@ use Rattle.std.specs.Prelude.{List, true, ℕ, ⊤, ◌≡◌}
 use Rattle.cap_spec.specs.Copies.{IsCanonical}
 use Rattle.cap_difference.specs.Differences.{FirstDifference}
 use Rattle.cap_difference.specs.declared.difference.Difference.{Difference}
-use Rattle.cap_vet.specs.declared.walk.vetting.Report.{Report}
+use Rattle.cap_walk.specs.declared.report.Report.{Report}
 use Rattle.cap_calls.specs.CallFindings.{Judges, Returns, accepted_found}
 use Rattle.cap_calls.specs.CallFlags.{demands_of}
 use Rattle.cap_calls.specs.CallInputs.{ReportsInput}

@@ -7,7 +7,7 @@ use Rattle.cap_calls.specs.CallFlags.{allows_trailing}
 use Rattle.cap_calls.specs.CallInputs.{ReportsInput}
 use Rattle.cap_calls.specs.CallReports.{place_report}
 use Rattle.cap_calls.specs.NodeCalls.{path_found}
-use Rattle.cap_calls.specs.PointerCalls.{IsCounted}
+use Rattle.cap_calls.specs.PointerCalls.{IsNumberedPath}
 use Rattle.cap_calls.specs.declared.answer.Answer.{Answer}
 use Rattle.cap_calls.specs.declared.answer.Answer.TheVariants.{Good, NoNode}
 use Rattle.cap_calls.specs.declared.found.Found.{Found}
@@ -20,13 +20,13 @@ pointer_found s w n = record { answer = Good; count = 0; report = place_report s
 
 -- Of a message: the first pointer that uses a word which pointer n uses too. Or that there is none, or that no such
 -- pointer n can be traced, or that no verdict has this number.
-pub data FindsEarlier (n : ℕ) (m : List (List ℕ)) (words depth : ℕ) (f : Found) : Type 0 where
-  earlier : (path : List Step) (s w k : ℕ) → IsCounted m words depth n path → IsEarlier m path s w k
-      → f ≡ pointer_found s w k → FindsEarlier n m words depth f
-  none : ((path : List Step) (s w k : ℕ) → IsCounted m words depth n path → ¬ IsEarlier m path s w k)
-      → f ≡ path_found NoNode → FindsEarlier n m words depth f
+pub data FindsEarlierCall (n : ℕ) (m : List (List ℕ)) (words depth : ℕ) (f : Found) : Type 0 where
+  earlier : (path : List Step) (s w k : ℕ) → IsNumberedPath m words depth n path → IsEarlier m path s w k
+      → f ≡ pointer_found s w k → FindsEarlierCall n m words depth f
+  none : ((path : List Step) (s w k : ℕ) → IsNumberedPath m words depth n path → ¬ IsEarlier m path s w k)
+      → f ≡ path_found NoNode → FindsEarlierCall n m words depth f
 
 -- Of the message that the input is or starts with.
 abbrev pub ReportsEarlierCall : CallLimits → List ℕ → ℕ → Answer → CallReport → Type 0
 ReportsEarlierCall l bytes n a r =
-    (f : Found) × ReportsInput (not (allows_trailing l)) ⊤ (FindsEarlier n) l bytes f × Returns f a r
+    (f : Found) × ReportsInput (not (allows_trailing l)) ⊤ (FindsEarlierCall n) l bytes f × Returns f a r

@@ -4,9 +4,9 @@ use Rattle.std.specs.Prelude.{List, drop, length, not, ℕ, ⊤, ◌<◌, ◌≡
 use Rattle.cap_spec.specs.Occupying.{IsDisjoint, IsFirstOverlap}
 use Rattle.cap_spec.specs.declared.StrictRefusal.TheVariants.{Refused}
 use Rattle.cap_vet.specs.VetNames.{IsExclusiveFault, IsAccepted, marks_of}
-use Rattle.cap_vet.specs.declared.demands.Demands.{Demands}
+use Rattle.cap_walk.specs.declared.demands.Demands.{Demands}
 use Rattle.cap_vet.specs.declared.exclusiveness.exclusive_buffer.ExclusiveFault.{ExclusiveFault}
-use Rattle.cap_vet.specs.declared.walk.vetting.Report.{Report}
+use Rattle.cap_walk.specs.declared.report.Report.{Report}
 use Rattle.cap_calls.specs.CallFindings.{Judges, Returns, accepted_found, refused_found}
 use Rattle.cap_calls.specs.CallFlags.{allows_trailing, demands_of}
 use Rattle.cap_calls.specs.CallInputs.{ReportsInput}

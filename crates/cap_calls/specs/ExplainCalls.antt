@@ -1,13 +1,11 @@
 -- What the call that explains a refusal returns and writes, from the bytes and the capacity alone (profile).
-use Rattle.std.specs.Prelude.{Bool, List, None, [], codes, drop, length, not, ℕ, ◌++◌, ◌<◌, ◌∷◌, ◌≡◌, ◌≤◌}
+use Rattle.std.specs.Prelude.{Bool, List, None, Option, [], codes, drop, length, not, ℕ, ◌++◌, ◌<◌, ◌∷◌, ◌≡◌, ◌≤◌}
 use Rattle.cap_spec.specs.declared.StrictRefusal.{StrictRefusal}
 use Rattle.cap_vet.specs.VetNames.{IsAccepted, IsDemandFault, Meets, words_under}
-use Rattle.cap_vet.specs.declared.demands.Demands.{Demands}
-use Rattle.cap_vet.specs.declared.walk.vetting.Report.{Report}
-use Rattle.cap_explain.specs.Charges.{fault_charge}
-use Rattle.cap_explain.specs.Explaining.{explanation}
-use Rattle.cap_explain.specs.declared.numbers.Numbers.{Numbers}
-use Rattle.cap_trace.specs.NamedPaths.{fault_path}
+use Rattle.cap_walk.specs.declared.demands.Demands.{Demands}
+use Rattle.cap_walk.specs.declared.report.Report.{Report}
+use Rattle.cap_explain.specs.Cycles.{IsFaultCycle}
+use Rattle.cap_explain.specs.FaultLines.{fault_lines}
 use Rattle.cap_calls.specs.CallBounds.{explanation_bound}
 use Rattle.cap_calls.specs.CallFindings.{Returns, accepted_found, refused_found}
 use Rattle.cap_calls.specs.CallFlags.{allows_trailing, demands_of, has_no_table}
@@ -17,23 +15,6 @@ use Rattle.cap_calls.specs.declared.answer.Answer.TheVariants.{Good, NoMessage, 
 use Rattle.cap_calls.specs.declared.found.Found.{Found}
 use Rattle.cap_calls.specs.declared.limits.CallLimits.{CallLimits}
 use Rattle.cap_calls.specs.declared.report.CallReport.{CallReport}
-
--- the limits of a message that doesn't meet the demands, the charge that it needs, and whether it has a segment table
-abbrev pub fault_numbers : (has_table : Bool) (demands : Demands) (m : List (List ℕ)) (words depth : ℕ)
-    (fault : StrictRefusal) → IsDemandFault demands m words depth fault → Numbers
-fault_numbers has_table demands m words depth fault h = record {
-  words = words_under demands m words;
-  depth = depth;
-  charge = fault_charge demands m words depth fault h;
-  has_table = has_table;
-  start = None;
-}
-
--- the lines that explain why a message doesn't meet the demands, the path first
-abbrev pub fault_lines : (has_table : Bool) (demands : Demands) (m : List (List ℕ)) (words depth : ℕ)
-    (fault : StrictRefusal) → IsDemandFault demands m words depth fault → List ℕ
-fault_lines has_table demands m words depth fault h = explanation (fault_path demands m words depth fault h) m fault
-    (fault_numbers has_table demands m words depth fault h)
 
 -- A text for this buffer, which held `old`: how many bytes the text takes, and what the buffer holds then. It is
 -- the text if that fits.
@@ -61,11 +42,13 @@ frame_line Trailing = codes "  reason " ++ frame_sentence Trailing ++ 10 ∷ []
 frame_line _ = []
 
 -- Of a message, for a buffer that held `old`, and then holds `new`: n is the length of the lines that explain why the
--- message doesn't meet the demands. There are none if it meets them.
+-- message doesn't meet the demands. One says that the path returns to the pointer word, exactly if the depth limit is
+-- passed there and it does. There are none if the message meets the demands.
 pub data FindsLines (has_table : Bool) (old : List ℕ) (n : ℕ) (new : List ℕ) (demands : Demands) (m : List (List ℕ))
     (words depth : ℕ) (f : Found) : Type 0 where
-  explained : (fault : StrictRefusal) (h : IsDemandFault demands m words depth fault)
-      → PutsText (fault_lines has_table demands m words depth fault h) old n new
+  explained : (fault : StrictRefusal) (h : IsDemandFault demands m words depth fault) (cycle : Option ℕ)
+      → IsFaultCycle demands m words depth fault h cycle
+      → PutsText (fault_lines has_table demands m words depth fault h cycle None) old n new
       → f ≡ refused_found fault → FindsLines has_table old n new demands m words depth f
   accepted : (report : Report) → IsAccepted m (words_under demands m words) depth report → Meets demands m words depth
       → f ≡ accepted_found Good 0 report → n ≡ 0 → new ≡ old

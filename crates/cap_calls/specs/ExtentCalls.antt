@@ -3,7 +3,7 @@
 use Rattle.std.specs.Prelude.{List, length, slice_index_or, slice_range, ℕ, ◌*◌, ◌+◌, ◌<◌, ◌≡◌, ◌≤◌}
 use Rattle.cap_spec.specs.SpecNames.{segment_of, plain_words}
 use Rattle.cap_frame.specs.Fronts.{IsFront}
-use Rattle.cap_calls.specs.CallFindings.{Reports, Returns}
+use Rattle.cap_calls.specs.CallFindings.{ReportsCall, Returns}
 use Rattle.cap_calls.specs.CallNodes.{offset_of}
 use Rattle.cap_calls.specs.CallReports.{none_report}
 use Rattle.cap_calls.specs.declared.answer.Answer.{Answer}
@@ -42,7 +42,7 @@ pub data FindsExtents (old new : List CallExtent) (m : List (List ℕ)) (f : Fou
 -- Of the frame that the bytes start with.
 abbrev pub ReportsExtents : CallLimits → List ℕ → List CallExtent → Answer → ℕ → List CallExtent → CallReport → Type 0
 ReportsExtents l bytes old a n new r =
-    (f : Found) × Reports (new ≡ old) (λ m words depth g. FindsExtents old new m g) l bytes f × Returns f a r
+    (f : Found) × ReportsCall (new ≡ old) (λ m words depth g. FindsExtents old new m g) l bytes f × Returns f a r
     × (n ≡ f.count)
 
 -- The words of each segment of the message that the bytes start with are the bytes at its extent.

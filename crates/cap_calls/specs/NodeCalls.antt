@@ -7,7 +7,7 @@ use Rattle.cap_spec.specs.declared.Kind.{Kind}
 use Rattle.cap_spec.specs.declared.Step.{Step}
 use Rattle.cap_spec.specs.declared.StrictRefusal.{StrictRefusal}
 use Rattle.cap_vet.specs.PathDemands.{IsPathFault, MeetsOnPath}
-use Rattle.cap_vet.specs.declared.demands.Demands.{Demands}
+use Rattle.cap_walk.specs.declared.demands.Demands.{Demands}
 use Rattle.cap_calls.specs.CallFindings.{Returns, none_found, refused_found}
 use Rattle.cap_calls.specs.CallFlags.{demands_of}
 use Rattle.cap_calls.specs.CallFrames.{AreLimits}
@@ -45,16 +45,16 @@ pub data Gets (path : List Step) (node : CallNode) (demands : Demands) (m : List
 
 -- Of a text: a limit is bad, or the text isn't a path, or this is found of its path in the message that the
 -- bytes are, or by the form start with.
-pub data ReportsPath (l : CallLimits) (bytes text : List ℕ) (node : CallNode) (f : Found) : Type 0 where
-  bad_limits : ¬ AreLimits l → f ≡ none_found BadLimits → node ≡ none_node → ReportsPath l bytes text node f
+pub data ReportsPathCall (l : CallLimits) (bytes text : List ℕ) (node : CallNode) (f : Found) : Type 0 where
+  bad_limits : ¬ AreLimits l → f ≡ none_found BadLimits → node ≡ none_node → ReportsPathCall l bytes text node f
   bad_path : (at : ℕ) → AreLimits l → IsBadAt text at → f ≡ bad_path_found at → node ≡ none_node
-      → ReportsPath l bytes text node f
+      → ReportsPathCall l bytes text node f
   a_path : (path : List Step) → AllByRecursion IsStep path → text ≡ path_text path
       → ReportsMessage (node ≡ none_node) (Gets path node (demands_of l)) l bytes f
-      → ReportsPath l bytes text node f
+      → ReportsPathCall l bytes text node f
 
 abbrev pub ReportsGet : CallLimits → List ℕ → List ℕ → Answer → CallNode → CallReport → Type 0
-ReportsGet l bytes text a node r = (f : Found) × ReportsPath l bytes text node f × Returns f a r
+ReportsGet l bytes text a node r = (f : Found) × ReportsPathCall l bytes text node f × Returns f a r
 
 -- what is found of a path is put into the first of some nodes
 abbrev pub GetsFirst : List Step → List CallNode → List CallNode → Demands → List (List ℕ) → ℕ → ℕ → Found → Type 0

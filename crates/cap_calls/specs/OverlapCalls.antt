@@ -1,7 +1,8 @@
 -- What the call that explains an overlap returns and writes, from the bytes, the pointer and the capacity alone (profile).
-use Rattle.std.specs.Prelude.{Bool, List, None, Option, Some, [], not, ℕ, ◌++◌, ◌≡◌, ◌≤◌}
+use Rattle.std.specs.Prelude.{Bool, List, None, Option, Some, not, ℕ, ◌++◌, ◌≡◌, ◌≤◌}
 use Rattle.cap_spec.specs.declared.Step.{Step}
-use Rattle.cap_explain.specs.Explaining.{earlier_explanation, overlap_lines}
+use Rattle.cap_explain.specs.Explaining.{overlap_lines}
+use Rattle.cap_explain.specs.FaultLines.{earlier_lines}
 use Rattle.cap_trace.specs.EarlierPointers.{IsEarlierOf, earlier_path}
 use Rattle.cap_trace.specs.declared.earlier.EarlierPointer.{EarlierPointer}
 use Rattle.cap_calls.specs.CallBounds.{overlap_bound}
@@ -10,18 +11,13 @@ use Rattle.cap_calls.specs.CallFlags.{allows_trailing, has_no_table}
 use Rattle.cap_calls.specs.CallInputs.{ReportsInput}
 use Rattle.cap_calls.specs.NodeCalls.{path_found}
 use Rattle.cap_calls.specs.PackCalls.{ReportsText}
-use Rattle.cap_calls.specs.PointerCalls.{IsCounted, steps_found}
+use Rattle.cap_calls.specs.PointerCalls.{IsNumberedPath, steps_found}
 use Rattle.cap_calls.specs.declared.answer.Answer.{Answer}
 use Rattle.cap_calls.specs.declared.answer.Answer.TheVariants.{NoNode}
 use Rattle.cap_calls.specs.declared.calls.explain_overlap.OverlapPointer.{OverlapPointer}
 use Rattle.cap_calls.specs.declared.found.Found.{Found}
 use Rattle.cap_calls.specs.declared.limits.CallLimits.{CallLimits}
 use Rattle.cap_calls.specs.declared.report.CallReport.{CallReport}
-
--- the line of the first pointer that uses a word which an overlap's pointer uses too, if there is one
-abbrev pub earlier_lines : Option (List Step) → Option EarlierPointer → List ℕ
-earlier_lines path None = []
-earlier_lines path (Some e) = earlier_explanation path e.segment e.word
 
 -- the lines on a pointer that overlaps, by the path to it, and that of the earlier pointer
 abbrev pub both_lines : (has_table : Bool) (p : OverlapPointer) (m : List (List ℕ)) (path : List Step)
@@ -34,10 +30,10 @@ both_lines has_table p m path earlier h =
 pub data FindsOverlap (has_table : Bool) (p : OverlapPointer) (old new : List ℕ) (m : List (List ℕ)) (words depth : ℕ)
     (f : Found) : Type 0 where
   explained : (path : List Step) (earlier : Option EarlierPointer) (h : IsEarlierOf m path earlier)
-      → IsCounted m words depth p.number path → ReportsText (both_lines has_table p m path earlier h) old f.answer f.count new
+      → IsNumberedPath m words depth p.number path → ReportsText (both_lines has_table p m path earlier h) old f.answer f.count new
       → f ≡ steps_found f.answer f.count
       → FindsOverlap has_table p old new m words depth f
-  none : ((path : List Step) → ¬ IsCounted m words depth p.number path) → f ≡ path_found NoNode → new ≡ old
+  none : ((path : List Step) → ¬ IsNumberedPath m words depth p.number path) → f ≡ path_found NoNode → new ≡ old
       → FindsOverlap has_table p old new m words depth f
 
 -- the same, with so many bytes as always suffice
@@ -46,7 +42,7 @@ FindsFewOverlapLines has_table p old new m words depth f =
     FindsOverlap has_table p old new m words depth f × (f.count ≤ overlap_bound)
 
 -- Of the message that the input is or starts with.
-abbrev pub ReportsOverlap : CallLimits → List ℕ → OverlapPointer → List ℕ → Answer → ℕ → List ℕ → CallReport → Type 0
-ReportsOverlap l bytes p old a required new r =
+abbrev pub ReportsOverlapCall : CallLimits → List ℕ → OverlapPointer → List ℕ → Answer → ℕ → List ℕ → CallReport → Type 0
+ReportsOverlapCall l bytes p old a required new r =
     (f : Found) × ReportsInput (not (allows_trailing l)) (new ≡ old) (FindsOverlap (not (has_no_table l)) p old new) l bytes f
     × Returns f a r × (required ≡ f.count)

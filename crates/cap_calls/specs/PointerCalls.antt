@@ -25,20 +25,20 @@ abbrev pub steps_found : Answer → ℕ → Found
 steps_found a n = record { answer = a; count = n; report = none_report }
 
 -- The path is number n, can be traced, and the number is one that a verdict may have.
-pub record IsCounted (m : List (List ℕ)) (words depth n : ℕ) (path : List Step) : Type 0 where
+pub record IsNumberedPath (m : List (List ℕ)) (words depth n : ℕ) (path : List Step) : Type 0 where
   pub traceable : IsTraceable m depth n path
   pub within : n ≤ words + 1
 
 -- Of a message, for a buffer that held `old`, and then holds `new`: the path to pointer word n, or that there is none
 -- that can be traced, or that no verdict has this number.
 pub data FindsPointer (n : ℕ) (old new : List CallStep) (m : List (List ℕ)) (words depth : ℕ) (f : Found) : Type 0 where
-  written : (path : List Step) → IsCounted m words depth n path → length path ≤ length old
+  written : (path : List Step) → IsNumberedPath m words depth n path → length path ≤ length old
       → f ≡ steps_found Good (length path) → new ≡ map call_step path ++ drop (length path) old
       → FindsPointer n old new m words depth f
-  too_small : (path : List Step) → IsCounted m words depth n path → length old < length path
+  too_small : (path : List Step) → IsNumberedPath m words depth n path → length old < length path
       → f ≡ steps_found BufferTooSmall (length path) → new ≡ old
       → FindsPointer n old new m words depth f
-  none : ((path : List Step) → ¬ IsCounted m words depth n path) → f ≡ path_found NoNode → new ≡ old
+  none : ((path : List Step) → ¬ IsNumberedPath m words depth n path) → f ≡ path_found NoNode → new ≡ old
       → FindsPointer n old new m words depth f
 
 -- the same, with at most as many steps as the depth limit has levels

@@ -2,7 +2,7 @@
 use Rattle.std.specs.Prelude.{List, [], length, min, slice_index_or, suc, zero, ℕ, ◌+◌, ◌<◌, ◌∷◌, ◌≡◌, ◌≤◌}
 use Rattle.cap_spec.specs.declared.Step.{Step}
 use Rattle.cap_spec.specs.declared.Step.TheVariants.{Item, Ptr}
-use Rattle.cap_vet.specs.declared.demands.Demands.{Demands}
+use Rattle.cap_walk.specs.declared.demands.Demands.{Demands}
 use Rattle.cap_calls.specs.CallFindings.{Returns, none_found}
 use Rattle.cap_calls.specs.CallFlags.{demands_of}
 use Rattle.cap_calls.specs.CallFrames.{AreLimits}
@@ -19,14 +19,14 @@ use Rattle.cap_calls.specs.declared.report.CallReport.{CallReport}
 use Rattle.cap_calls.specs.declared.step.CallStep.{CallStep}
 
 -- A step of kind 0 is to a pointer, one of kind 1 to an element.
-abbrev pub step_of : ℕ → ℕ → Step
-step_of zero number = Ptr (min number 65535)
-step_of (suc k) number = Item (min number 4294967295)
+abbrev pub step_of_kind : ℕ → ℕ → Step
+step_of_kind zero number = Ptr (min number 65535)
+step_of_kind (suc k) number = Item (min number 4294967295)
 
 -- The step with `more` added to its number. No struct has a pointer 65535, and no list an element
 -- 4294967295 (`high_numbers_lead_to_no_node` in `cap_laws`). So numbers past these lead to nothing as these do.
 abbrev pub step_after : CallStep → ℕ → Step
-step_after s more = step_of s.kind (s.number + more)
+step_after s more = step_of_kind s.kind (s.number + more)
 
 -- the path of these steps, with `more` added to the number of the varying one
 abbrev pub path_after : List CallStep → ℕ → ℕ → List Step
@@ -39,7 +39,7 @@ abbrev pub kind_at : List CallStep → ℕ → ℕ
 kind_at steps i = (slice_index_or steps i record { kind = 0; number = 0 }).kind
 
 -- Each kind is 0 or 1, and the varying step is one of them.
-pub record AreSteps (steps : List CallStep) (varying : ℕ) : Type 0 where
+pub record AreStepKinds (steps : List CallStep) (varying : ℕ) : Type 0 where
   pub known : (i : ℕ) → i < length steps → kind_at steps i ≤ 1
   pub inside : varying < length steps
 
@@ -74,7 +74,7 @@ pub data ReportsSteps (l : CallLimits) (bytes : List ℕ) (steps : List CallStep
   bad_limits : ¬ AreLimits l → f ≡ none_found BadLimits → new ≡ old → ReportsSteps l bytes steps varying old new f
   bad_steps : (at : ℕ) → AreLimits l → IsBadStep steps varying at → f ≡ bad_path_found at → new ≡ old
       → ReportsSteps l bytes steps varying old new f
-  range : AreSteps steps varying
+  range : AreStepKinds steps varying
       → ReportsMessage (new ≡ old) (GetsRange (λ k. path_after steps varying k) old new (demands_of l)) l bytes f
       → ReportsSteps l bytes steps varying old new f
 

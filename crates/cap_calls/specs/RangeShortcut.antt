@@ -2,8 +2,8 @@
 use Rattle.std.specs.Prelude.{List, [], length, slice_index_or, ℕ, ⊤, ◌++◌, ◌<◌, ◌∷◌, ◌≡◌, ◌≤◌}
 use Rattle.cap_spec.specs.declared.Step.{Step}
 use Rattle.cap_spec.specs.declared.Step.TheVariants.{Ptr}
-use Rattle.cap_vet.specs.PathWays.{IsStart, LeadsToElements, elements_message}
-use Rattle.cap_vet.specs.declared.demands.Demands.{Demands}
+use Rattle.cap_vet.specs.GivenPaths.{IsStart, LeadsToElements, elements_message}
+use Rattle.cap_walk.specs.declared.demands.Demands.{Demands}
 use Rattle.cap_vet.specs.declared.nodes.path_start.PathStart.{PathStart}
 use Rattle.cap_calls.specs.CallNodes.{none_node}
 use Rattle.cap_calls.specs.NodeCalls.{Gets, path_found}

@@ -5,7 +5,7 @@ use Rattle.cap_calls.specs.CallFlags.{demands_of}
 use Rattle.cap_calls.specs.CallFrames.{AreLimits, HasFrame}
 use Rattle.cap_calls.specs.CallReports.{none_report}
 use Rattle.cap_calls.specs.Calls.{IsGood}
-use Rattle.cap_calls.specs.Slices.{AreSegments, ReportsNoSegments, segments_in, words_in}
+use Rattle.cap_calls.specs.Slices.{AreSegments, ReportsNoSegments, segments_in, words_of_slices}
 use Rattle.cap_calls.specs.declared.answer.Answer.{Answer}
 use Rattle.cap_calls.specs.declared.found.Found.{Found}
 use Rattle.cap_calls.specs.declared.front.NoFrame.TheVariants.{BadLimits}
@@ -42,7 +42,7 @@ pub data FindsSegments (l : CallLimits) (parts : List (List ℕ)) (f : Found) : 
       → FindsSegments l parts f
   message : AreLimits l → AreSegments l.message_words parts → (g : Found)
       → Judges (demands_of l) ⊤ IsGood (segments_in parts) l.charge l.depth g
-      → f ≡ framed_found l (8 * words_in parts) (segments_in parts) g
+      → f ≡ framed_found l (8 * words_of_slices parts) (segments_in parts) g
       → FindsSegments l parts f
 
 -- the bytes are a frame of these segments, within the limits
@@ -50,5 +50,5 @@ abbrev pub FramesParts : CallLimits → List (List ℕ) → List ℕ → Type 0
 FramesParts l parts bytes = AreSegments l.message_words parts
     × ((n : ℕ) × HasFrame l bytes (length bytes) n (segments_in parts))
 
-abbrev pub ReportsSegments : CallLimits → List (List ℕ) → Answer → CallReport → Type 0
-ReportsSegments l parts a r = (f : Found) × FindsSegments l parts f × Returns f a r
+abbrev pub ReportsSegmentsCall : CallLimits → List (List ℕ) → Answer → CallReport → Type 0
+ReportsSegmentsCall l parts a r = (f : Found) × FindsSegments l parts f × Returns f a r

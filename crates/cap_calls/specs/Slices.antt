@@ -14,8 +14,8 @@ abbrev pub segments_in : List (List ℕ) → List (List ℕ)
 segments_in parts = map plain_words parts
 
 -- how many words they have together
-abbrev pub words_in : List (List ℕ) → ℕ
-words_in parts = sum (sizes_of (segments_in parts))
+abbrev pub words_of_slices : List (List ℕ) → ℕ
+words_of_slices parts = sum (sizes_of (segments_in parts))
 
 -- part s ends inside a word, and none before it does
 pub record IsBadSegment (parts : List (List ℕ)) (s : ℕ) : Type 0 where
@@ -32,12 +32,12 @@ pub record AreSegments (limit : ℕ) (parts : List (List ℕ)) : Type 0 where
   pub some : 1 ≤ length parts
   pub few : length parts ≤ 512
   pub whole : AreWhole parts
-  pub within : words_in parts ≤ limit
+  pub within : words_of_slices parts ≤ limit
 
 -- why they aren't; the number of words stops at 2 ^ 64 - 1
 abbrev pub ReportsNoSegments : ℕ → List (List ℕ) → SlicesFault → Type 0
 ReportsNoSegments limit parts NoSegments = parts ≡ []
 ReportsNoSegments limit parts (TooManySegments count) = (512 < length parts) × (count ≡ length parts)
 ReportsNoSegments limit parts (BadSegment s) = (length parts ≤ 512) × IsBadSegment parts s
-ReportsNoSegments limit parts (TooLarge words) = (length parts ≤ 512) × AreWhole parts × (limit < words_in parts)
-    × (words ≡ capped (words_in parts))
+ReportsNoSegments limit parts (TooLarge words) = (length parts ≤ 512) × AreWhole parts × (limit < words_of_slices parts)
+    × (words ≡ capped (words_of_slices parts))

@@ -3,7 +3,7 @@
 ghost use Rattle.cap_calls.specs.CallBounds.{canonical_bound, frame_bound, marks_bound, pack_bound};
 ghost use Rattle.std.specs.Prelude.{◌≡◌, min};
 
-use crate::limits::MOST_WORDS;
+use cap_frame::MOST_WORDS;
 
 /// The most bytes of a frame whose segments have `message_words` words. Above the maximum of the
 /// limit, it is that of the maximum.

@@ -4,7 +4,7 @@ ghost use Rattle.cap_calls.specs.CallFrames.{AreLimits, HasNoFrame};
 ghost use Rattle.cap_frame.specs.Framed.{frame_bytes, framed_segments};
 ghost use Rattle.cap_frame.specs.Fronts.{IsFront};
 ghost use Rattle.cap_frame.specs.Limit.{limit_of};
-ghost use Rattle.cap_vet.specs.Limits.{depth_of, words_of};
+ghost use Rattle.cap_walk.specs.Limits.{depth_of, words_of};
 ghost use Rattle.std.specs.Prelude.{◌≡◌, ◌↔◌, IfErr, IfOk, IfSome, IsSome};
 
 use crate::limits::CallLimits;

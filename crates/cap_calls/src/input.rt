@@ -2,19 +2,19 @@
 
 ghost use Rattle.cap_calls.specs.CallFindings.{Returns};
 ghost use Rattle.cap_calls.specs.CallFlags.{demands_of, has_no_table};
-ghost use Rattle.cap_calls.specs.CallInputs.{HasNoWords, HasWords, ReportsInput};
+ghost use Rattle.cap_calls.specs.CallInputs.{IsNoSegment, IsSegment, ReportsInput};
 ghost use Rattle.cap_calls.specs.declared.found.Found.{Found};
 ghost use Rattle.cap_spec.specs.Plain.{plain_words};
-ghost use Rattle.cap_vet.specs.Limits.{depth_of, words_of};
+ghost use Rattle.cap_walk.specs.Limits.{depth_of, words_of};
 ghost use Rattle.std.specs.Prelude.{◌≡◌, [], ◌∷◌, Bool, IfErr, IfOk, IsTrue};
 
 use crate::answer::Answer;
 use crate::found::Found;
 use crate::front::NoFrame;
-use crate::limits::{CallLimits, MOST_WORDS};
+use crate::limits::CallLimits;
 use crate::over::{Call, over};
 use crate::report::CallReport;
-use cap_frame::{ByteView, FrontFault, Segments};
+use cap_frame::{ByteView, FrontFault, MOST_WORDS, Segments};
 use cap_vet::Limits;
 
 /// What a call finds of its input: of the message that bytes start with, or by their form of the
@@ -75,10 +75,10 @@ fn whole_segment<'b>(
 ) -> Result<(ByteView<'b>, Limits), NoFrame>
     ensures limits { IfOk result (λ v. (words_of v.1 ≡ limits.now.charge)
         × (depth_of v.1 ≡ limits.now.depth)) }
-    ensures words { IfOk result (λ v. HasWords limits.now bytes.now) }
+    ensures words { IfOk result (λ v. IsSegment limits.now bytes.now) }
     ensures segments { let of = ⟦<ByteView<'b> as Segments>⟧.segments in
         IfOk result (λ v. of v.0 ≡ plain_words bytes.now ∷ []) }
-    ensures none { IfErr result (HasNoWords limits.now bytes.now) }
+    ensures none { IfErr result (IsNoSegment limits.now bytes.now) }
 {
     if !limits.has_word_flags() || limits.message_words > MOST_WORDS {
         return Err(NoFrame::BadLimits);

@@ -2,12 +2,11 @@
 //! of these flags no call refuses more. Separate segments are vetted as their frame is. A first
 //! difference has the answer of the check.
 
-ghost use Rattle.cap_calls.specs.CallFindings.{JudgesAny, Returns, Reports, ReportsWhole};
+ghost use Rattle.cap_calls.specs.CallFindings.{JudgesAny, Returns, ReportsCall, ReportsWhole};
 ghost use Rattle.cap_calls.specs.CallFlags.{AllowsMore, demands_of};
 ghost use Rattle.cap_calls.specs.CallFrames.{AreLimits};
 ghost use Rattle.cap_calls.specs.CallInputs.{AreInputLimits};
-ghost use Rattle.cap_calls.specs.CallLaws.{AreBytes, PointerCall, RefusesNothing, WritesCopy, no_demands};
-ghost use Rattle.cap_calls.specs.SegmentsCalls.{FramesParts, ReportsSegments};
+ghost use Rattle.cap_calls.specs.CallLaws.{AreBytes, PointerCall, RefusesNothing, WritesCopy};
 ghost use Rattle.cap_calls.specs.Calls.{IsCheck, IsGood, ReportsCheck, ReportsCheckWords, ReportsFrame, ReportsVet};
 ghost use Rattle.cap_calls.specs.CanonicalCalls.{ReportsAnyCopy, ReportsCopy};
 ghost use Rattle.cap_calls.specs.DifferenceCalls.{IsDifferent, ReportsDifference};
@@ -19,13 +18,14 @@ ghost use Rattle.cap_calls.specs.NodeCalls.{ReportsGet};
 ghost use Rattle.cap_calls.specs.PackedMessages.{ReportsPackMessage};
 ghost use Rattle.cap_calls.specs.PointerCalls.{ReportsPointer};
 ghost use Rattle.cap_calls.specs.RangeCalls.{RangeCall, ReportsRange};
+ghost use Rattle.cap_calls.specs.SegmentsCalls.{FramesParts, ReportsSegmentsCall};
+ghost use Rattle.cap_calls.specs.UnpackingMessages.{Unpacked, UnpacksTo};
 ghost use Rattle.cap_calls.specs.declared.answer.Answer.{Answer};
 ghost use Rattle.cap_calls.specs.declared.answer.Answer.TheVariants.{Good, NoNode, NotCanonical, TooLarge};
 ghost use Rattle.cap_calls.specs.declared.extent.CallExtent.{CallExtent};
 ghost use Rattle.cap_calls.specs.declared.found.Found.{Found};
 ghost use Rattle.cap_calls.specs.declared.limits.CallLimits.{CallLimits};
 ghost use Rattle.cap_calls.specs.declared.node.CallNode.{CallNode};
-ghost use Rattle.cap_calls.specs.UnpackingMessages.{Unpacked, UnpacksTo};
 ghost use Rattle.cap_calls.specs.declared.report.CallReport.{CallReport};
 ghost use Rattle.cap_calls.specs.declared.unpacking.Unpacking.{Unpacking};
 ghost use Rattle.cap_spec.specs.Accepting.{IsWithin};
@@ -36,8 +36,8 @@ ghost use Rattle.cap_spec.specs.declared.Refusal.{Refusal};
 ghost use Rattle.cap_spec.specs.declared.Step.{Step};
 ghost use Rattle.cap_spec.specs.declared.StrictRefusal.{StrictRefusal};
 ghost use Rattle.cap_spec.specs.declared.StrictRefusal.TheVariants.{Refused};
-ghost use Rattle.cap_vet.specs.Demands.{IsDemandFault, Meets};
 ghost use Rattle.cap_vet.specs.PathDemands.{IsPathFault, KeepsToLimits, MeetsOnPath};
+ghost use Rattle.cap_walk.specs.Demands.{IsDemandFault, Meets, no_demands};
 ghost use Rattle.std.specs.Prelude.{◌*◌, ◌<◌, ◌≡◌, ◌≢◌, ◌≤◌, ◌↔◌, List, length, true, ℕ, ⊤};
 
 /// With both flags a call judges the message that bytes start with by their form as `vet` of the crate
@@ -48,10 +48,10 @@ ghost use Rattle.std.specs.Prelude.{◌*◌, ◌<◌, ◌≡◌, ◌≢◌, ◌�
 pub fn all_flags_demand_nothing()
     ensures vet { (l : CallLimits) (bytes : List ℕ) (a : Answer) (r : CallReport) → l.flags ≡ 3 →
         l.form ≡ 1 → ReportsVet l bytes a r ↔
-        ((f : Found) × Reports ⊤ (JudgesAny ⊤ IsGood) l bytes f × Returns f a r) }
+        ((f : Found) × ReportsCall ⊤ (JudgesAny ⊤ IsGood) l bytes f × Returns f a r) }
     ensures exclusive { (l : CallLimits) (bytes : List ℕ) (size : ℕ) (a : Answer) (n : ℕ)
         (r : CallReport) → l.flags ≡ 3 → l.form ≡ 1 → ReportsExclusive l bytes size a n r ↔
-        ((f : Found) × Reports ⊤ (MarksAny size) l bytes f × Returns f a r × (n ≡ f.count)) }
+        ((f : Found) × ReportsCall ⊤ (MarksAny size) l bytes f × Returns f a r × (n ≡ f.count)) }
     ensures canonical { (l : CallLimits) (bytes old : List ℕ) (a : Answer) (n : ℕ) (new : List ℕ)
         (r : CallReport) → l.flags ≡ 3 → l.form ≡ 1 →
         ReportsCopy l bytes old a n new r ↔ ReportsAnyCopy l bytes old a n new r }
@@ -101,7 +101,7 @@ pub fn wider_limits_refuse_no_more()
         ReportsDifference l bytes a r → ReportsDifference k bytes a r }
     ensures segments { (l k : CallLimits) (parts : List (List ℕ)) (a : Answer) (r : CallReport) →
         AreLimits k → AllowsMore l k → RefusesNothing a →
-        ReportsSegments l parts a r → ReportsSegments k parts a r }
+        ReportsSegmentsCall l parts a r → ReportsSegmentsCall k parts a r }
     ensures frame { (l k : CallLimits) (bytes : List ℕ) (a : Answer) (r : CallReport) →
         AreLimits k → AllowsMore l k → RefusesNothing a →
         ReportsFrame l bytes a r → ReportsFrame k bytes a r }
@@ -136,7 +136,7 @@ pub fn wider_limits_refuse_no_more()
 /// frame them, with the same report apart from its length.
 pub fn separate_segments_are_vetted_as_framed()
     ensures { (l : CallLimits) (parts : List (List ℕ)) (bytes : List ℕ) (a : Answer)
-        (r : CallReport) → FramesParts l parts bytes → ReportsSegments l parts a r →
+        (r : CallReport) → FramesParts l parts bytes → ReportsSegmentsCall l parts a r →
         ReportsVet l bytes a (record r { length = length bytes }) }
 {}
 

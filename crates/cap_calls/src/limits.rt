@@ -1,9 +1,7 @@
 //! The limits of a call.
 
+use cap_frame::MOST_WORDS;
 use cap_vet::Demands;
-
-/// The most words that the limits of a call allow, of a message and of its charge.
-pub(crate) const MOST_WORDS: u64 = 268435456;
 
 /// The highest sum of flags: 1 and 2.
 const ALL_FLAGS: u32 = 3;

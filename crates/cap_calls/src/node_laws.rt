@@ -6,7 +6,7 @@ ghost use Rattle.cap_calls.specs.CallFrames.{BeginsWith};
 ghost use Rattle.cap_calls.specs.CallNodes.{none_node, offset_of};
 ghost use Rattle.cap_calls.specs.Calls.{ReportsVet};
 ghost use Rattle.cap_calls.specs.NodeCalls.{ReportsGet};
-ghost use Rattle.cap_calls.specs.RangeCalls.{AreSteps, RangeCall};
+ghost use Rattle.cap_calls.specs.RangeCalls.{AreStepKinds, RangeCall};
 ghost use Rattle.cap_calls.specs.declared.answer.Answer.{Answer};
 ghost use Rattle.cap_calls.specs.declared.answer.Answer.TheVariants.{Good, NoNode};
 ghost use Rattle.cap_calls.specs.declared.limits.CallLimits.{CallLimits};
@@ -18,9 +18,9 @@ ghost use Rattle.cap_spec.specs.PathTexts.{IsPath};
 ghost use Rattle.cap_spec.specs.Paths.{IsPlace};
 ghost use Rattle.cap_spec.specs.Plain.{plain_words};
 ghost use Rattle.cap_spec.specs.declared.Step.{Step};
-ghost use Rattle.cap_vet.specs.Demands.{Meets};
 ghost use Rattle.cap_vet.specs.PathDemands.{MeetsOnPath};
-ghost use Rattle.cap_vet.specs.declared.demands.Demands.{Demands};
+ghost use Rattle.cap_walk.specs.Demands.{Meets};
+ghost use Rattle.cap_walk.specs.declared.demands.Demands.{Demands};
 ghost use Rattle.std.specs.Prelude.{◌*◌, ◌+◌, ◌<◌, ◌≡◌, ◌≤◌, ◌⊎◌, IsFalse, List, length, slice_index_or, slice_range, ℕ};
 
 /// If a message meets the demands, so do the pointers on each path. So [`crate::get`] and
@@ -34,7 +34,7 @@ pub fn vetted_messages_have_their_nodes()
         (r q : CallReport) → IsFalse (has_no_table l) → IsPath text →
         ReportsVet l bytes Good r → ReportsGet l bytes text a node q → (a ≡ Good) ⊎ (a ≡ NoNode) }
     ensures get_range { (l : CallLimits) (bytes : List ℕ) (r : CallReport) (c : RangeCall l bytes) →
-        IsFalse (has_no_table l) → AreSteps c.steps c.varying → ReportsVet l bytes Good r →
+        IsFalse (has_no_table l) → AreStepKinds c.steps c.varying → ReportsVet l bytes Good r →
         (c.returned ≡ Good) ⊎ (c.returned ≡ NoNode) }
 {}
 

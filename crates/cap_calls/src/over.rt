@@ -5,8 +5,8 @@ ghost use Rattle.cap_calls.specs.CallFlags.{demands_of};
 ghost use Rattle.cap_calls.specs.declared.found.Found.{Found};
 ghost use Rattle.cap_frame.specs.Framed.{frame_bytes, framed_segments};
 ghost use Rattle.cap_spec.specs.Frames.{sizes_of};
-ghost use Rattle.cap_vet.specs.Limits.{depth_of, words_of};
-ghost use Rattle.cap_vet.specs.declared.demands.Demands.{Demands};
+ghost use Rattle.cap_walk.specs.Limits.{depth_of, words_of};
+ghost use Rattle.cap_walk.specs.declared.demands.Demands.{Demands};
 ghost use Rattle.std.specs.Prelude.{◌≡◌, ◌-◌, if◌then◌else◌, List, length, sum, ℕ};
 
 use crate::found::Found;

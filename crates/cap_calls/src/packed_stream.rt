@@ -2,7 +2,7 @@
 
 ghost use Rattle.cap_calls.specs.PackedStreams.{WritesWords, IsRunRest, words_to_come};
 ghost use Rattle.cap_calls.specs.UnpackingMessages.{bytes_needed};
-ghost use Rattle.std.specs.Prelude.{◌+◌, ◌<◌, ◌≡◌, ◌≢◌, ◌≤◌, [], ◌∷◌, drop, false, length, true};
+ghost use Rattle.std.specs.Prelude.{◌+◌, ◌<◌, ◌≡◌, ◌≢◌, ◌≤◌, [], drop, false, length, true};
 
 use cap_pack::{front_head, head_len};
 use cap_words::bytes_of;

@@ -1,7 +1,7 @@
 //! Messages whose segments are separate slices.
 
 ghost use Rattle.cap_frame.specs.Limit.{limit_of};
-ghost use Rattle.cap_calls.specs.Slices.{AreSegments, AreWhole, IsBadSegment, ReportsNoSegments, bytes_of, segments_in, words_in};
+ghost use Rattle.cap_calls.specs.Slices.{AreSegments, AreWhole, IsBadSegment, ReportsNoSegments, bytes_of, segments_in, words_of_slices};
 ghost use Rattle.cap_spec.specs.Frames.{sizes_of};
 ghost use Rattle.cap_spec.specs.Messages.{IsMessage};
 ghost use Rattle.cap_spec.specs.Plain.{capped};
@@ -31,7 +31,7 @@ pub(crate) struct SliceMessage<'b> {
     slices: &'b [&'b [u8]],
     // how many words they have together
     words: u64,
-    ghost total: { words ≡ words_in (bytes_of slices.now) },
+    ghost total: { words ≡ words_of_slices (bytes_of slices.now) },
     ghost is_message: { IsMessage (segments_in (bytes_of slices.now)) } by { Prim.hlevel props },
 }
 
@@ -111,7 +111,7 @@ impl<'b> Segments for SliceMessage<'b> {
 fn total(slices: &[&[u8]]) -> Result<u64, u32>
     requires { length slices.now ≤ 512 }
     ensures whole { IfOk result (λ _. AreWhole (bytes_of slices.now)) }
-    ensures words { IfOk result (λ n. n ≡ capped (words_in (bytes_of slices.now))) }
+    ensures words { IfOk result (λ n. n ≡ capped (words_of_slices (bytes_of slices.now))) }
     ensures cut { IfErr result (IsBadSegment (bytes_of slices.now)) }
 {
     let mut words = 0u64;

@@ -5,7 +5,7 @@ use Rattle.cap_spec.proofs.ProofNames.{common_steps, Err, List, None, Result, ar
 use Rattle.cap_spec.proofs.ProofNames.{subst, sym, true, ℕ, ◌+◌, ◌<◌, ◌==◌, ◌^◌, ◌∙◌, ◌≡◌, ◌≢◌, ◌≤◌, false≢true, layout}
 use Rattle.cap_spec.proofs.ProofNames.{trim, HasCopy, IsCanonical, Denotes, Leads, to_cap, IsOneOf, IsFirstCap, Reaches}
 use Rattle.cap_spec.proofs.ProofNames.{Tree, cap_count, has_cap, rules}
-use Rattle.cap_vet.specs.Reports.{IsFirstCapOf, IsReport}
+use Rattle.cap_walk.specs.Reports.{IsFirstCapOf, IsReport}
 use Rattle.cap_canon.specs.CanonNames.{CanonFault, Step, Report, HasTree}
 
 -- a message with a capability has no copy

@@ -6,9 +6,9 @@ use Rattle.cap_spec.proofs.ProofNames.{option_to_list, refl, reverse, subst, suc
 use Rattle.cap_spec.proofs.ProofNames.{◌<◌, ◌^◌, ◌∙◌, ◌∷◌, ◌≡◌, ◌≤◌, ◌⊎◌, length-reverse, IsMessage, Tree, Trees, more}
 use Rattle.cap_spec.proofs.ProofNames.{struct, tree_count, rules}
 use Rattle.cap_canon.specs.Objects.{IsPointersObject, IsStructObject, IsStructsObject}
-use Rattle.cap_canon.specs.CanonNames.{OptionFull, further_places, option_places, places_of, row_places, AreBefore}
+use Rattle.cap_canon.specs.CanonNames.{OptionFull, further_places, option_places, places_of, copy_row_places, AreBefore}
 use Rattle.cap_canon.specs.CanonNames.{Due, below, element_slots, own_size, slots, AreElementsLeft, AreLeft, IsObject}
-use Rattle.cap_canon.specs.CanonNames.{AreOwed, IsWalking, NextLeadsTo, Stacked, work_left, Object, Part, CopyRun}
+use Rattle.cap_canon.specs.CanonNames.{AreOwed, IsCopying, NextLeadsTo, Stacked, copy_work_left, Object, Part, CopyRun}
 use Rattle.cap_canon.specs.CanonNames.{PointerPlace}
 use Rattle.cap_canon.proofs.Lengths.{size_below, size_due-append}
 use Rattle.cap_canon.proofs.Owing.{before_join, before_more, owed_count, stacked_more}
@@ -29,7 +29,7 @@ structs_run_of x count end = record {
 
 -- a row of words, of which each child is left
 pub row_owed : (m : List (List ℕ)) (deeper depth n t b a p : ℕ) (us : Trees) → deeper + n ≤ depth → tree_count us ≡ p → AreLeft m deeper t b us
-    → AreOwed m depth n (row_places t b a p) (slots a us)
+    → AreOwed m depth n (copy_row_places t b a p) (slots a us)
 row_owed m deeper depth n t b a zero none le e h = tt
 row_owed m deeper depth n t b a (suc p) (more u us) le e h =
     search (rules, row_owed m deeper depth n t (b + 1) (a + 1) p us le (omega (arith, e)) h.1)
@@ -52,7 +52,7 @@ further_owed m deeper depth n t x b a skip ds ps d p es le e f h = search rules
 -- and of the first and the others
 elements_owed : (m : List (List ℕ)) (deeper depth n t b a skip ds ps d p others : ℕ) (es : Trees) → deeper + n ≤ depth → p + skip ≡ ps + ds
     → tree_count es ≡ suc others → AreElementsLeft m deeper t b ds ps d p es
-    → AreOwed m depth n (row_places t (b + ds) (a + d) p ++ further_places t (b + ds + p) (a + d + p) skip d p others) (element_slots d p a es)
+    → AreOwed m depth n (copy_row_places t (b + ds) (a + d) p ++ further_places t (b + ds + p) (a + d + p) skip d p others) (element_slots d p a es)
 elements_owed m deeper depth n t b a skip ds ps d p others (more (struct ws us) es) le f e h =
     let many : tree_count es ≡ others = omega (arith, e) in search (rules, owed_join, row_owed, further_owed)
 elements_owed m deeper depth n t b a skip ds ps d p others es le f e h = search rules
@@ -73,16 +73,16 @@ kept_words m deeper s w x u k = ap length k.data_words ∙ range_length m x.segm
 
 pub struct_owed : (m : List (List ℕ)) (deeper depth n end s w : ℕ) (x : Part) (u : Tree) (places : List PointerPlace) → IsStructObject m deeper s w u x
     → deeper + n ≤ depth
-    → places ≡ row_places x.segment (x.start + x.data_words) (end + x.data_left) x.pointers_left → AreOwed m depth n places (below end u)
+    → places ≡ copy_row_places x.segment (x.start + x.data_words) (end + x.data_left) x.pointers_left → AreOwed m depth n places (below end u)
 struct_owed m deeper depth n end s w x u places k le e =
-    let own = row_places x.segment (x.start + x.data_words) (end + x.data_left) x.pointers_left in
+    let own = copy_row_places x.segment (x.start + x.data_words) (end + x.data_left) x.pointers_left in
     let row : AreOwed m depth n own (slots (end + x.data_left) k.children) = search (rules, row_owed) in
     let all : AreOwed m depth n own (slots (end + length k.words) k.children) = search (rules, kept_words) in
     subst (λ v. AreOwed m depth n places (below end v)) (sym k.tree) (subst (λ ps. AreOwed m depth n ps (slots (end + length k.words) k.children)) (sym e) all)
 
 pub pointers_owed : (m : List (List ℕ)) (deeper depth n end s w t b count : ℕ) (u : Tree) (places : List PointerPlace)
     → IsPointersObject m deeper s w u t b count → deeper + n ≤ depth
-    → places ≡ row_places t b end count → AreOwed m depth n places (below end u)
+    → places ≡ copy_row_places t b end count → AreOwed m depth n places (below end u)
 pointers_owed m deeper depth n end s w t b count u places k le e = search (rules, row_owed)
 
 pub structs_none_owed : (m : List (List ℕ)) (deeper depth n end s w count : ℕ) (x : Part) (u : Tree) → IsStructsObject m deeper s w u count x
@@ -119,7 +119,7 @@ below_before m d s w end u h k = search (rules, slots_before, elements_before)
 pub entered : (m : List (List ℕ)) (depth end now : ℕ) (p : PointerPlace) (tree : Tree) (due : List Due) (runs : List CopyRun) (r : Option CopyRun)
     (o : Object) → NextLeadsTo m depth p runs end tree due o
     → now ≡ end + own_size tree → OptionFull r → AreOwed m depth (length runs + 1) (option_places r) (below end tree)
-    → IsWalking m depth (runs ++ option_to_list r) now (below end tree ++ due)
+    → IsCopying m depth (runs ++ option_to_list r) now (below end tree ++ due)
 entered m depth end now p tree due runs r o k e full owed =
     let l : length runs + 1 ≡ length (reverse runs) + 1 = omega (arith, length-reverse runs) in
     let all = stacked_more m depth (length runs + 1) r (reverse runs) (below end tree) due l full owed k.next.stacked in
@@ -132,7 +132,7 @@ entered m depth end now p tree due runs r o k e full owed =
 
 -- its stack has capacity for them
 row_deep : (m : List (List ℕ)) (depth n t b a left : ℕ) (others : List PointerPlace) (due : List Due) → 0 < left
-    → AreOwed m depth n (row_places t b a left ++ others) due → n ≤ depth
+    → AreOwed m depth n (copy_row_places t b a left ++ others) due → n ≤ depth
 row_deep m depth n t b a k others e some h = search rules
 
 pub capacity_above : (capacity : ℕ) (m : List (List ℕ)) (depth : ℕ) (due : List Due) (runs : List CopyRun) (rest below : Option CopyRun) → depth ≤ capacity
@@ -155,7 +155,7 @@ below_count m d s w end u h k = search (rules, slots_count, elements_count)
 
 pub work_more : (m : List (List ℕ)) (d s w end : ℕ) (u : Tree) (o : Object) (runs : List CopyRun) (r : Option CopyRun) → IsObject m d s w u o
     → AreOwed m d 1 (option_places r) (below end u)
-    → work_left (runs ++ option_to_list r) ≤ work_left runs + own_size u
+    → copy_work_left (runs ++ option_to_list r) ≤ copy_work_left runs + own_size u
 work_more m d s w end u o runs r k owed = search (rules, count_more, owed_count, below_count)
 
 -- the first pointer of the elements is a number of 32 bits

@@ -19,9 +19,10 @@ use Rattle.cap_ptr.specs.Shapes.{FindsObject, IsShape}
 use Rattle.cap_ptr.specs.declared.shapes.Shape.{Shape}
 use Rattle.cap_ptr.proofs.NearObjects.{pointers-no_extra, pointers-plain}
 use Rattle.cap_vet.specs.VetNames.{IsNotLax, object_children, IsAccepted, IsReport, KnowsLax, Ahead, IsTrail}
-use Rattle.cap_vet.specs.VetNames.{element_rows, row, IsLookedAt}
+use Rattle.cap_walk.specs.Trails.{element_rows, row}
+use Rattle.cap_vet.specs.VetNames.{IsLookedAt}
 use Rattle.cap_vet.proofs.Laxness.{knows_on, within_of}
-use Rattle.cap_vet.proofs.OneTrail.{object_trail, one_trail, root_trail}
+use Rattle.cap_walk.proofs.OneTrail.{object_trail, one_trail, root_trail}
 use Rattle.cap_canon.specs.InOrder.{AreDue, HasDiffered, HasOwn, IsAsInCopy, IsCompared, IsInOrder, IsLaidSoFar}
 use Rattle.cap_canon.specs.InOrder.{IsNextInOrder, IsOwn, LeadsToEnd, MayStartAt}
 use Rattle.cap_canon.specs.NullsInOrder.{null_compared}

@@ -14,13 +14,10 @@ pub mod InOrder
 pub mod InOrderLists
 mod InPlace
 mod LaidSteps
-mod Laying
 mod Lengths
 pub mod Needed
-mod FarWords
 pub mod NoCopies
 mod NullRuns
-pub mod OtherWords
 pub mod Overs
 mod Owing
 mod PointerForms

@@ -6,8 +6,8 @@ use Rattle.cap_spec.proofs.ProofNames.{◌^◌, ◌≡◌, ◌≤◌, cases_lt, 
 use Rattle.cap_spec.proofs.ProofNames.{pointer_to, HasWord, segment_of, Tree, rules}
 use Rattle.cap_spec.specs.Tree.{null}
 use Rattle.cap_canon.specs.AtRuns.{AtRun}
-use Rattle.cap_canon.specs.CanonNames.{AreOwed, Due, IsRest, IsWalking, Stacked, first_place, own_size}
-use Rattle.cap_canon.specs.CanonNames.{below, longest_copy, row_places, work_left, CopyRun, PointerPlace}
+use Rattle.cap_canon.specs.CanonNames.{AreOwed, Due, IsCopyRest, IsCopying, Stacked, first_place, own_size}
+use Rattle.cap_canon.specs.CanonNames.{below, longest_copy, copy_row_places, copy_work_left, CopyRun, PointerPlace}
 use Rattle.cap_canon.specs.NullTurns.{AreNullTurns, null_slots, with_first}
 use Rattle.cap_canon.specs.Roots.{ForTrimmed}
 use Rattle.cap_canon.specs.NullsInOrder.{zero_null}
@@ -51,7 +51,7 @@ at_null Q tree end due e q =
 
 -- the turn at a null word
 pub null_turn : {m : List (List ℕ)} {state : List (List ℕ) → Tree → ℕ → List Due → Type 0} {depth : ℕ} {runs : List CopyRun} {f : CopyRun} {end : ℕ}
-    → AtRun m state depth runs f end → HasWord m f.segment f.at 0 → (rest : Option CopyRun) → IsRest f rest
+    → AtRun m state depth runs f end → HasWord m f.segment f.at 0 → (rest : Option CopyRun) → IsCopyRest f rest
     → TurnHere m state depth (runs ++ option_to_list rest) (first_place f) end object.Null
 null_turn {m} {state} {depth} {runs} {f} {end} k is_null rest is_rest =
     turn_here object.Null k rest is_rest (λ t c d h. ap trim (zero_null m f.segment f.at t c d h is_null))
@@ -76,15 +76,15 @@ one_due {m} state {depth} {runs} f {end} n h =
 one_on : {m : List (List ℕ)} (state : List (List ℕ) → Tree → ℕ → List Due → Type 0) {depth : ℕ} {runs : List CopyRun} (f : CopyRun) {end : ℕ} (n : ℕ)
     → n + 1 < f.left → HasWord m f.segment (f.at + n) 0 → AtRun m (after_nulls state f.slot n) depth runs (onward f n) end
     → AtRun m (after_nulls state f.slot (suc n)) depth runs (onward (onward f n) 1) end
-    × (work_left (runs ++ onward (onward f n) 1 ∷ []) + 1 ≡ work_left (runs ++ onward f n ∷ []))
+    × (copy_work_left (runs ++ onward (onward f n) 1 ∷ []) + 1 ≡ copy_work_left (runs ++ onward f n ∷ []))
 one_on {m} state {depth} {runs} f {end} n lt is_null k =
     let g = onward f n in
-    let r : IsRest g (Some (onward g 1)) = rest_of_row f.segment g.at g.slot f.more f.skip f.gap f.pointers (omega (arith, lt)) k.full in
+    let r : IsCopyRest g (Some (onward g 1)) = rest_of_row f.segment g.at g.slot f.more f.skip f.gap f.pointers (omega (arith, lt)) k.full in
     let h = null_turn k is_null (Some (onward g 1)) r in
     let e : end ≡ end + own_size h.at.tree = omega (arith, ap own_size h.met.is) in
     let all = runs ++ onward g 1 ∷ [] in
-    let walking : IsWalking m depth all end (below end h.at.tree ++ h.at.due) =
-    subst (λ fs. IsWalking m depth fs end (below end h.at.tree ++ h.at.due)) (append-nil all)
+    let walking : IsCopying m depth all end (below end h.at.tree ++ h.at.due) =
+    subst (λ fs. IsCopying m depth fs end (below end h.at.tree ++ h.at.due)) (append-nil all)
     (entered m depth end end (first_place g) h.at.tree h.at.due all None object.Null h.met e tt (rw h.met.is tt)) in
     let so_far = at_null (λ x ds. after_nulls state f.slot (suc n) m (trim h.at.root) x ds) h.at.tree end h.at.due h.met.is (one_due state f n h) in (
       next_run m (after_nulls state f.slot n) (after_nulls state f.slot (suc n)) depth all runs (first_place g) end end (onward g 1) h.at e walking so_far,
@@ -124,7 +124,7 @@ onward_more f n =
 
 -- Several null words in a row are one turn each.
 abbrev pub GoesOn : List (List ℕ) → (List (List ℕ) → Tree → ℕ → List Due → Type 0) → ℕ → List CopyRun → CopyRun → ℕ → ℕ → CopyRun → Type 0
-GoesOn m state depth runs f end n g = AtRun m (after_nulls state f.slot n) depth runs g end × (work_left (runs ++ g ∷ []) ≤ work_left (runs ++ f ∷ []))
+GoesOn m state depth runs f end n g = AtRun m (after_nulls state f.slot n) depth runs g end × (copy_work_left (runs ++ g ∷ []) ≤ copy_work_left (runs ++ f ∷ []))
 
 pub nulls_on : {m : List (List ℕ)} (state : List (List ℕ) → Tree → ℕ → List Due → Type 0) {depth : ℕ} {runs : List CopyRun} (f : CopyRun) {end : ℕ} (n : ℕ)
     → n < f.left → ((k : ℕ) → k < n → HasWord m f.segment (f.at + k) 0) → AtRun m state depth runs f end
@@ -196,7 +196,7 @@ nulls_passed {m} state new {depth} {runs} f {end} n c e is_null go k = record {
 word_in : (m : List (List ℕ)) (s w : ℕ) (t : Tree) (c d : ℕ) → Denotes m s w t c d → (s < length m) × (w < length (segment_of m s))
 word_in m s w t c d h = let f = formed m s w t c d h in search (rules, lead_word, HasWord-segment, HasWord-inside)
 
-row_in : (m : List (List ℕ)) (depth n s b a p : ℕ) (others : List PointerPlace) (due : List Due) → 0 < p → AreOwed m depth n (row_places s b a p ++ others) due
+row_in : (m : List (List ℕ)) (depth n s b a p : ℕ) (others : List PointerPlace) (due : List Due) → 0 < p → AreOwed m depth n (copy_row_places s b a p ++ others) due
     → (s < length m) × (b + p ≤ length (segment_of m s))
 row_in m depth n s b a zero others due some h = absurd (omega (arith, some))
 row_in m depth n s b a (suc p) others [] some h = absurd h
@@ -209,7 +209,7 @@ pub rest_in : {m : List (List ℕ)} {state : List (List ℕ) → Tree → ℕ �
     → AtRun m state depth runs f end → (f.segment < length m) × (f.at + f.left ≤ length (segment_of m f.segment))
 rest_in {m} {state} {depth} {runs} f {end} lt k =
     let g = onward f 1 in
-    let r : IsRest f (Some g) = rest_of_row f.segment f.at f.slot f.more f.skip f.gap f.pointers lt k.full in
+    let r : IsCopyRest f (Some g) = rest_of_row f.segment f.at f.slot f.more f.skip f.gap f.pointers lt k.full in
     let t = k.turn (Some g) r in
     let e : reverse (runs ++ g ∷ []) ≡ g ∷ reverse runs = reverse-append runs (g ∷ []) in
     let s : Stacked m depth (g ∷ reverse runs) t.due = subst (λ fs. Stacked m depth fs t.due) e t.next.stacked in
@@ -243,7 +243,7 @@ nulls_first state f k = nulls_on state f 0 (omega (arith, k.full.some)) (λ i le
 pub first_passed : {m : List (List ℕ)} (state : List (List ℕ) → Tree → ℕ → List Due → Type 0) (new : List (List ℕ) → Tree → ℕ → List Due → Type 0) {depth : ℕ}
     {runs : List CopyRun} (f : CopyRun) {end : ℕ} → HasWord m f.segment f.at 0
     → ((u : Tree) (due : List Due) → AreNullTurns u f.slot 1 end → state m u end (null_slots f.slot 1 ++ due) → new m u end due)
-    → AtRun m state depth runs f end → AtRun m (with_first new) depth runs f end × (work_left (runs ++ f ∷ []) ≤ work_left (runs ++ f ∷ []))
+    → AtRun m state depth runs f end → AtRun m (with_first new) depth runs f end × (copy_work_left (runs ++ f ∷ []) ≤ copy_work_left (runs ++ f ∷ []))
 first_passed {m} state new {depth} {runs} f {end} is_null go k =
     let at : HasWord m f.segment (f.at + 0) 0 = subst (λ i. HasWord m f.segment i 0) (omega arith) is_null in (
       subst (λ g. AtRun m (with_first new) depth runs g end) (onward_none f) (nulls_passed state new f 0 1 refl at go (nulls_first state f k).0),

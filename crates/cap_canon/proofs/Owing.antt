@@ -4,9 +4,9 @@ use Rattle.cap_spec.proofs.ProofNames.{common_steps, List, Option, [], ap, arith
 use Rattle.cap_spec.proofs.ProofNames.{reverse, subst, suc, ℕ, ◌++◌, ◌+◌, ◌<◌, ◌^◌, ◌∙◌, ◌∷◌, ◌≡◌, ◌≤◌, length-reverse}
 use Rattle.cap_spec.proofs.ProofNames.{reverse-append, Denotes, IsMessage, Tree, rules}
 use Rattle.cap_canon.specs.Laying.{size_due}
-use Rattle.cap_canon.specs.CanonNames.{AreShort, IsFull, IsRest, OptionFull, first_place, option_places}
-use Rattle.cap_canon.specs.CanonNames.{places_of, AreBefore, Due, AreOwed, IsNext, IsWalking, Stacked, longest_copy}
-use Rattle.cap_canon.specs.CanonNames.{work_left, CopyRun, PointerPlace}
+use Rattle.cap_canon.specs.CanonNames.{AreShort, IsFull, IsCopyRest, OptionFull, first_place, option_places}
+use Rattle.cap_canon.specs.CanonNames.{places_of, AreBefore, Due, AreOwed, IsNextToCopy, IsCopying, Stacked, longest_copy}
+use Rattle.cap_canon.specs.CanonNames.{copy_work_left, CopyRun, PointerPlace}
 use Rattle.cap_canon.specs.StillToLay.{RunOwes}
 use Rattle.cap_canon.proofs.Runs.{count_more}
 
@@ -54,7 +54,7 @@ pub record Topmost (m : List (List ℕ)) (depth end : ℕ) (f : CopyRun) (runs :
   pub before : AreBefore end own
   pub near : end ≤ longest_copy
 
-pub topmost : {m : List (List ℕ)} {depth end : ℕ} {runs : List CopyRun} {f : CopyRun} {due : List Due} → IsWalking m depth (runs ++ f ∷ []) end due
+pub topmost : {m : List (List ℕ)} {depth end : ℕ} {runs : List CopyRun} {f : CopyRun} {due : List Due} → IsCopying m depth (runs ++ f ∷ []) end due
     → Topmost m depth end f runs due
 topmost {m} {depth} {end} {runs} {f} {due} w =
     let e : reverse (runs ++ f ∷ []) ≡ f ∷ reverse runs = reverse-append runs (f ∷ []) in
@@ -70,7 +70,7 @@ topmost {m} {depth} {end} {runs} {f} {due} w =
     }
 
 -- its words are numbers of 32 bits
-pub top_short : (m : List (List ℕ)) (depth end : ℕ) (runs : List CopyRun) (f : CopyRun) (due : List Due) → IsWalking m depth (runs ++ f ∷ []) end due
+pub top_short : (m : List (List ℕ)) (depth end : ℕ) (runs : List CopyRun) (f : CopyRun) (due : List Due) → IsCopying m depth (runs ++ f ∷ []) end due
     → IsFull f × AreShort (places_of f)
 top_short m depth end runs f due w =
     let k = topmost w in
@@ -78,11 +78,11 @@ top_short m depth end runs f due w =
 
 -- The first of the words that are due is at p, and is the next.
 abbrev pub Takes : List (List ℕ) → ℕ → PointerPlace → List CopyRun → ℕ → List Due → Type 0
-Takes m depth p runs end due = (tree : Tree) × (rest : List Due) × (due ≡ record { slot = p.slot; tree = tree } ∷ rest) × IsNext m depth p runs end tree rest
+Takes m depth p runs end due = (tree : Tree) × (rest : List Due) × (due ≡ record { slot = p.slot; tree = tree } ∷ rest) × IsNextToCopy m depth p runs end tree rest
 
 -- The first word of the topmost run is the next to look at.
 first_owed : {m : List (List ℕ)} {depth n end : ℕ} {f : CopyRun} {r : Option CopyRun} (runs : List CopyRun) (own rest : List Due) → n ≡ length runs + 1
-    → IsRest f r → IsMessage m
+    → IsCopyRest f r → IsMessage m
     → AreOwed m depth n (first_place f ∷ option_places r) own → Stacked m depth (reverse runs) rest → AreBefore end (own ++ rest)
     → end + size_due (own ++ rest) ≤ longest_copy
     → Takes m depth (first_place f) (runs ++ option_to_list r) end (own ++ rest)
@@ -91,7 +91,7 @@ first_owed runs (x ∷ own) rest e is_rest is h s b small =
     search (rules, reverse-more, stacked_more, length-reverse, option_to_list, length-append)
 
 pub next_of : (m : List (List ℕ)) (depth end : ℕ) (runs : List CopyRun) (f : CopyRun) (r : Option CopyRun) (due : List Due)
-    → IsWalking m depth (runs ++ f ∷ []) end due → IsRest f r → Takes m depth (first_place f) (runs ++ option_to_list r) end due
+    → IsCopying m depth (runs ++ f ∷ []) end due → IsCopyRest f r → Takes m depth (first_place f) (runs ++ option_to_list r) end due
 next_of m depth end runs f r due w is_rest =
     let k = topmost w in
     let owed : AreOwed m depth (length (reverse runs) + 1) (first_place f ∷ option_places r) k.own = search rules in
@@ -100,5 +100,5 @@ next_of m depth end runs f r due w is_rest =
     (n.0, n.1, k.all ∙ n.2, n.3)
 
 -- one word fewer is left
-pub next_work : (runs : List CopyRun) (f : CopyRun) (r : Option CopyRun) → IsRest f r → work_left (runs ++ option_to_list r) + 1 ≡ work_left (runs ++ f ∷ [])
+pub next_work : (runs : List CopyRun) (f : CopyRun) (r : Option CopyRun) → IsCopyRest f r → copy_work_left (runs ++ option_to_list r) + 1 ≡ copy_work_left (runs ++ f ∷ [])
 next_work runs f r is_rest = grind (arith, common_steps, count_more)

@@ -8,8 +8,8 @@ use Rattle.cap_spec.proofs.ProofNames.{ℕ, ◌++◌, ◌+◌, ◌-◌, ◌<◌,
 use Rattle.cap_spec.proofs.ProofNames.{segment_of, Tree, rules}
 use Rattle.cap_canon.specs.AtRuns.{AtRun, AtTurn}
 use Rattle.cap_canon.specs.CopyTurns.{IsTurn}
-use Rattle.cap_canon.specs.CanonNames.{IsRest, first_place, place, root_run, Due, Laid}
-use Rattle.cap_canon.specs.CanonNames.{below, own_size, IsObject, HasTree, IsWalking, NextLeadsTo, Object}
+use Rattle.cap_canon.specs.CanonNames.{IsCopyRest, first_place, place, copy_root_run, Due, Laid}
+use Rattle.cap_canon.specs.CanonNames.{below, own_size, IsObject, HasTree, IsCopying, NextLeadsTo, Object}
 use Rattle.cap_canon.specs.CanonNames.{CopyRun, PointerPlace}
 use Rattle.cap_canon.specs.StillToLay.{IsOwed}
 use Rattle.cap_canon.proofs.LaidSteps.{object_laid}
@@ -76,7 +76,7 @@ next_turn m before state depth runs rest p q end now k e taken so_far =
 -- no word is left
 pub last_turn : {m : List (List ℕ)} (before state : List (List ℕ) → Tree → ℕ → List Due → Type 0) {depth : ℕ} {runs : List CopyRun}
     {p : PointerPlace} {end now : ℕ}
-    → (k : AtTurn m before depth runs p end) → now ≡ end + own_size k.tree → IsWalking m depth [] now (below end k.tree ++ k.due)
+    → (k : AtTurn m before depth runs p end) → now ≡ end + own_size k.tree → IsCopying m depth [] now (below end k.tree ++ k.due)
     → state m (trim k.root) (end + own_size k.tree) (below end k.tree ++ k.due) → (t : Tree) (c d : ℕ) → Denotes m 0 0 t c d
     → (now ≡ length (layout (trim t))) × state m (trim t) now []
 last_turn {m} before state {depth} {runs} {p} {end} {now} k e w so_far t c d h =
@@ -85,7 +85,7 @@ last_turn {m} before state {depth} {runs} {p} {end} {now} k e w so_far t c d h =
 
 -- at the root
 pub first_run : (m : List (List ℕ)) (state : List (List ℕ) → Tree → ℕ → List Due → Type 0) (depth : ℕ) → IsMessage m → (k : HasTree m depth)
-    → state m (trim k.tree) 1 (record { slot = 0; tree = trim k.tree } ∷ []) → AtRun m state depth [] root_run 1
+    → state m (trim k.tree) 1 (record { slot = 0; tree = trim k.tree } ∷ []) → AtRun m state depth [] copy_root_run 1
 first_run m state depth is k so_far = search (rules, root_rest, first_turn)
 
 -- The turn there, if this is left of the run after its first word.
@@ -96,7 +96,7 @@ pub record TurnHere (m : List (List ℕ)) (state : List (List ℕ) → Tree → 
   pub turn : IsTurn m (trim at.root) object p end at.tree at.due
 
 pub turn_here : {m : List (List ℕ)} {state : List (List ℕ) → Tree → ℕ → List Due → Type 0} {depth : ℕ} {runs : List CopyRun}
-    {run : CopyRun} {end : ℕ} (object : Object) → AtRun m state depth runs run end → (rest : Option CopyRun) → IsRest run rest
+    {run : CopyRun} {end : ℕ} (object : Object) → AtRun m state depth runs run end → (rest : Option CopyRun) → IsCopyRest run rest
     → ((t : Tree) (c d : ℕ) → Denotes m run.segment run.at t c d → IsObject m d run.segment run.at (trim t) object)
     → TurnHere m state depth (runs ++ option_to_list rest) (first_place run) end object
 turn_here {m} {state} {depth} {runs} {run} {end} object k rest is_rest f =
@@ -109,7 +109,7 @@ turn_here {m} {state} {depth} {runs} {run} {end} object k rest is_rest f =
 -- The runs after a turn, of which the current one comes last.
 pub next_run : (m : List (List ℕ)) (before state : List (List ℕ) → Tree → ℕ → List Due → Type 0) (depth : ℕ) (runs after : List CopyRun)
     (p : PointerPlace) (end now : ℕ) (new : CopyRun)
-    → (k : AtTurn m before depth runs p end) → now ≡ end + own_size k.tree → IsWalking m depth (after ++ new ∷ []) now (below end k.tree ++ k.due)
+    → (k : AtTurn m before depth runs p end) → now ≡ end + own_size k.tree → IsCopying m depth (after ++ new ∷ []) now (below end k.tree ++ k.due)
     → state m (trim k.root) (end + own_size k.tree) (below end k.tree ++ k.due) → AtRun m state depth after new now
 next_run m before state depth runs after p end now new k e w so_far =
     let t = top_short m depth now after new (below end k.tree ++ k.due) w in record {

@@ -1,9 +1,9 @@
 -- A walk over an accepted message, between two turns (profile).
 use Rattle.std.specs.Prelude.{List, Option, option_to_list, ℕ, ◌++◌, ◌∷◌}
 use Rattle.cap_spec.specs.SpecNames.{layout, trim, Denotes, Tree}
-use Rattle.cap_canon.specs.CopyRuns.{AreShort, IsFull, IsRest, first_place, places_of}
+use Rattle.cap_canon.specs.CopyRuns.{AreShort, IsFull, IsCopyRest, first_place, places_of}
 use Rattle.cap_canon.specs.Laying.{Due, Laid}
-use Rattle.cap_canon.specs.StillToLay.{IsNext}
+use Rattle.cap_canon.specs.StillToLay.{IsNextToCopy}
 use Rattle.cap_canon.specs.declared.run.CopyRun.{CopyRun}
 use Rattle.cap_canon.specs.declared.run.PointerPlace.{PointerPlace}
 
@@ -15,7 +15,7 @@ pub record AtTurn (m : List (List ℕ)) (state : List (List ℕ) → Tree → �
   pub denotes : Denotes m 0 0 root charge depth
   pub tree : Tree
   pub due : List Due
-  pub next : IsNext m depth p runs end tree due
+  pub next : IsNextToCopy m depth p runs end tree due
   pub laid : Laid (layout (trim root)) end (record { slot = p.slot; tree = tree } ∷ due)
   pub so_far : state m (trim root) end (record { slot = p.slot; tree = tree } ∷ due)
 
@@ -24,4 +24,4 @@ pub record AtRun (m : List (List ℕ)) (state : List (List ℕ) → Tree → ℕ
     (run : CopyRun) (end : ℕ) : Type 0 where
   pub full : IsFull run
   pub short : AreShort (places_of run)
-  pub turn : (rest : Option CopyRun) → IsRest run rest → AtTurn m state depth (runs ++ option_to_list rest) (first_place run) end
+  pub turn : (rest : Option CopyRun) → IsCopyRest run rest → AtTurn m state depth (runs ++ option_to_list rest) (first_place run) end

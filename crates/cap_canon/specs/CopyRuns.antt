@@ -10,17 +10,17 @@ abbrev pub place : ℕ → ℕ → ℕ → PointerPlace
 place t b a = record { segment = t; word = b; slot = a }
 
 -- n pointer words in a row
-abbrev pub row_places : ℕ → ℕ → ℕ → ℕ → List PointerPlace
-row_places t b a zero = []
-row_places t b a (suc n) = place t b a ∷ row_places t (b + 1) (a + 1) n
+abbrev pub copy_row_places : ℕ → ℕ → ℕ → ℕ → List PointerPlace
+copy_row_places t b a zero = []
+copy_row_places t b a (suc n) = place t b a ∷ copy_row_places t (b + 1) (a + 1) n
 
 -- p of each of n further elements
 abbrev pub further_places : ℕ → ℕ → ℕ → ℕ → ℕ → ℕ → ℕ → List PointerPlace
 further_places t b a skip gap p zero = []
-further_places t b a skip gap p (suc n) = row_places t (b + skip) (a + gap) p ++ further_places t (b + skip + p) (a + gap + p) skip gap p n
+further_places t b a skip gap p (suc n) = copy_row_places t (b + skip) (a + gap) p ++ further_places t (b + skip + p) (a + gap + p) skip gap p n
 
 abbrev pub places_of : CopyRun → List PointerPlace
-places_of f = row_places f.segment f.at f.slot f.left ++ further_places f.segment (f.at + f.left) (f.slot + f.left) f.skip f.gap f.pointers f.more
+places_of f = copy_row_places f.segment f.at f.slot f.left ++ further_places f.segment (f.at + f.left) (f.slot + f.left) f.skip f.gap f.pointers f.more
 
 abbrev pub option_places : Option CopyRun → List PointerPlace
 option_places None = []
@@ -34,8 +34,8 @@ abbrev pub first_place : CopyRun → PointerPlace
 first_place f = place f.segment f.at f.slot
 
 -- the run of the root word alone
-abbrev pub root_run : CopyRun
-root_run = record { segment = 0; at = 0; slot = 0; left = 1; more = 0; skip = 0; gap = 0; pointers = 0 }
+abbrev pub copy_root_run : CopyRun
+copy_root_run = record { segment = 0; at = 0; slot = 0; left = 1; more = 0; skip = 0; gap = 0; pointers = 0 }
 
 -- a run, if something is left of it
 abbrev pub run_kept : Bool → CopyRun → Option CopyRun
@@ -58,6 +58,6 @@ abbrev pub AreShort : List PointerPlace → Type 0
 AreShort places = AllByRecursion IsShort places
 
 -- what is left of a run after its first pointer word
-pub record IsRest (f : CopyRun) (rest : Option CopyRun) : Type 0 where
+pub record IsCopyRest (f : CopyRun) (rest : Option CopyRun) : Type 0 where
   pub words : places_of f ≡ first_place f ∷ option_places rest
   pub full : OptionFull rest

@@ -26,7 +26,7 @@ pub record IsStructAt (m : List (List ℕ)) (s w t b ds ps : ℕ) (x : Tree) (d 
   pub levels : deep + 1 ≤ d
 
 -- The word at s:w finds a list of n structs of ds data words and ps pointers each, whose tag is at t:b.
-pub record LeadsToStructs (m : List (List ℕ)) (s w t b n ds ps : ℕ) : Type 0 where
+pub record FindsStructList (m : List (List ℕ)) (s w t b n ds ps : ℕ) : Type 0 where
   pub k : ℕ
   pub q : ℕ
   pub tag : ℕ
@@ -42,7 +42,7 @@ pub record LeadsToStructs (m : List (List ℕ)) (s w t b n ds ps : ℕ) : Type 0
 
 -- It denotes the tree x, of d levels.
 pub record IsStructsAt (m : List (List ℕ)) (s w t b n ds ps : ℕ) (x : Tree) (d : ℕ) : Type 0 where
-  pub found : LeadsToStructs m s w t b n ds ps
+  pub found : FindsStructList m s w t b n ds ps
   pub elements : Trees
   pub inner : ℕ
   pub deep : ℕ

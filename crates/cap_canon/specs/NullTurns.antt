@@ -3,7 +3,7 @@ use Rattle.std.specs.Prelude.{List, Some, [], length, slice_get, suc, zero, ℕ,
 use Rattle.cap_spec.specs.SpecNames.{layout, Tree, null}
 use Rattle.cap_canon.specs.AtRuns.{AtRun}
 use Rattle.cap_canon.specs.Laying.{Due}
-use Rattle.cap_canon.specs.StillToLay.{work_left}
+use Rattle.cap_canon.specs.StillToLay.{copy_work_left}
 use Rattle.cap_canon.specs.declared.run.CopyRun.{CopyRun}
 
 -- n null pointer words of the copy in a row, which are due
@@ -30,4 +30,4 @@ with_first state m u end due = state m u end (after_first due)
 abbrev pub GoesPast : List (List ℕ) → (List (List ℕ) → Tree → ℕ → List Due → Type 0)
     → (List (List ℕ) → Tree → ℕ → List Due → Type 0) → CopyRun → CopyRun → Type 0
 GoesPast m before after f g = (depth end : ℕ) (runs : List CopyRun) → AtRun m before depth runs f end
-    → AtRun m after depth runs g end × (work_left (runs ++ g ∷ []) ≤ work_left (runs ++ f ∷ []))
+    → AtRun m after depth runs g end × (copy_work_left (runs ++ g ∷ []) ≤ copy_work_left (runs ++ f ∷ []))

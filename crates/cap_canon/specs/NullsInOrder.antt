@@ -7,8 +7,8 @@ use Rattle.cap_spec.specs.declared.Step.{Step}
 use Rattle.cap_spec.proofs.Pointers.Following.{one_lead}
 use Rattle.cap_spec.proofs.Trees.OneTree.{HasForm, form_of, formed}
 use Rattle.cap_vet.specs.StrictNulls.{null_known}
-use Rattle.cap_vet.specs.Trails.{Ahead}
-use Rattle.cap_vet.proofs.OneTrail.{null_trail}
+use Rattle.cap_walk.specs.Trails.{Ahead}
+use Rattle.cap_walk.proofs.OneTrail.{null_trail}
 use Rattle.cap_canon.specs.Checked.{IsChecked}
 use Rattle.cap_canon.specs.InOrder.{AreDue, IsCompared, IsInOrder, IsLaidSoFar}
 use Rattle.cap_canon.specs.Laying.{AreBefore, Due, Laid}

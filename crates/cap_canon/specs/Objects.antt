@@ -5,7 +5,7 @@ use Rattle.cap_spec.specs.Denoting.{values_of}
 use Rattle.cap_spec.specs.SpecNames.{trim, Denotes, Finds, words_from, segment_of, code, kind, list_size, list_words}
 use Rattle.cap_spec.specs.SpecNames.{Tree, Trees, cap, null, pointers, scalars, struct, structs}
 use Rattle.cap_spec.specs.Tree.{more, none, tree_count}
-use Rattle.cap_canon.specs.Found.{LeadsToStruct, LeadsToStructs}
+use Rattle.cap_canon.specs.Found.{LeadsToStruct, FindsStructList}
 use Rattle.cap_canon.specs.declared.objects.Object.{Object}
 use Rattle.cap_canon.specs.declared.objects.Part.{Part}
 use Rattle.cap_canon.specs.declared.objects.Object.TheVariants as object
@@ -72,7 +72,7 @@ pub record IsPointersObject (m : List (List ℕ)) (deep s w : ℕ) (u : Tree) (t
 pub record IsStructsObject (m : List (List ℕ)) (deep s w : ℕ) (u : Tree) (n : ℕ) (x : Part) : Type 0 where
   pub b : ℕ
   pub start : x.start ≡ b + 1
-  pub found : LeadsToStructs m s w x.segment b n x.data_words x.pointers
+  pub found : FindsStructList m s w x.segment b n x.data_words x.pointers
   pub elements : Trees
   pub tree : u ≡ structs x.data_left x.pointers_left elements
   pub many : tree_count elements ≡ n

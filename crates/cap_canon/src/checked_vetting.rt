@@ -3,16 +3,15 @@
 ghost use Rattle.cap_canon.specs.InOrder.{IsNotCanonical};
 ghost use Rattle.cap_spec.specs.Copies.{IsCanonical};
 ghost use Rattle.cap_spec.specs.Faults.{IsRefused};
-ghost use Rattle.cap_spec.specs.GreatestLimits.{most_depth, most_words};
 ghost use Rattle.cap_spec.specs.Strict.{IsStrict};
 ghost use Rattle.cap_spec.specs.declared.Refusal.{Refusal};
 ghost use Rattle.cap_spec.specs.declared.StrictRefusal.{StrictRefusal};
 ghost use Rattle.cap_spec.specs.declared.StrictRefusal.TheVariants.{Refused};
-ghost use Rattle.cap_vet.specs.Demands.{IsDemandFault, Meets, words_under};
-ghost use Rattle.cap_vet.specs.Limits.{depth_of, words_of};
-ghost use Rattle.cap_vet.specs.Reports.{IsAccepted};
-ghost use Rattle.cap_vet.specs.Turns.{IsStopped};
 ghost use Rattle.cap_vet.specs.Vettings.{message_of, report_of};
+ghost use Rattle.cap_walk.specs.Demands.{IsDemandFault, Meets, words_under};
+ghost use Rattle.cap_walk.specs.Limits.{depth_of, words_of};
+ghost use Rattle.cap_walk.specs.Reports.{IsAccepted};
+ghost use Rattle.cap_walk.specs.Turns.{IsStopped};
 ghost use Rattle.std.specs.Prelude.{Err, ◌↔◌, ◌≡◌, IfErr, IfOk, IsFalse, IsOk, IsTrue};
 
 use crate::in_order::{InOrder, NotCanonical};
@@ -27,18 +26,11 @@ pub fn is_canonical<M: Segments>(v: &Vetted<'_, M>) -> bool
 {
     // For the proof alone: what is known of the message.
     let _report = v.report();
-    match check_in_order(v.message(), greatest()) {
+    match check_in_order(v.message(), Limits::greatest()) {
         Ok((_, canonical)) => canonical,
         Err(Stopped::Refused(_)) => false,
         Err(Stopped::ByTurn(NotCanonical)) => false,
     }
-}
-
-// The limits that each accepted message is within.
-fn greatest() -> Limits
-    ensures { (words_of result ≡ most_words) × (depth_of result ≡ most_depth) }
-{
-    Limits::new(268_435_456, 256).unwrap()
 }
 
 /// Vets a message under demands, as [`vet_with`] does, and returns with an accepted message whether

@@ -1,6 +1,6 @@
 //! A run of pointer words that a walk still has to look at.
 
-ghost use Rattle.cap_canon.specs.CopyRuns.{AreShort, IsFull, IsRest, places_of, run_kept};
+ghost use Rattle.cap_canon.specs.CopyRuns.{AreShort, IsFull, IsCopyRest, places_of, run_kept};
 
 /// A pointer word of the message, and the word of the copy that it becomes.
 #[derive(Clone, Copy)]
@@ -31,7 +31,7 @@ impl CopyRun {
     pub(crate) fn advance(&mut self) -> bool
         requires full { IsFull self.old }
         requires short { AreShort (places_of self.old) }
-        ensures { IsRest self.old (run_kept result self.new) }
+        ensures { IsCopyRest self.old (run_kept result self.new) }
     {
         if self.left > 1 {
             self.at += 1;

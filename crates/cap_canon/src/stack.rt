@@ -1,9 +1,9 @@
 //! The pointer words that a walk still has to look at.
 
-ghost use Rattle.cap_canon.specs.CopyRuns.{AreShort, IsFull, OptionFull, option_places, places_of, row_places, run_kept};
+ghost use Rattle.cap_canon.specs.CopyRuns.{AreShort, IsFull, OptionFull, option_places, places_of, copy_row_places, run_kept};
 ghost use Rattle.cap_canon.specs.Laying.{below, own_size};
 ghost use Rattle.cap_canon.specs.Objects.{IsObject, IsStructsObject};
-ghost use Rattle.cap_canon.specs.StillToLay.{AreOwed, Continues, longest_copy};
+ghost use Rattle.cap_canon.specs.StillToLay.{AreOwed, ContinuesCopy, longest_copy};
 ghost use Rattle.cap_spec.specs.Messages.{IsMessage};
 ghost use Rattle.cap_spec.specs.Tree.{Tree};
 ghost use Rattle.std.specs.Option.{option_to_list};
@@ -30,7 +30,7 @@ pub(crate) fn go_on<const N: usize>(
     requires capacity { IfSome below (λ _. length stack.old.items < N) }
     requires full { IsFull run.old }
     requires short { AreShort (places_of run.old) }
-    ensures { Continues result stack.old.items run.old below stack.new.items run.new }
+    ensures { ContinuesCopy result stack.old.items run.old below stack.new.items run.new }
 {
     match below {
         Some(below) => {
@@ -124,7 +124,7 @@ fn structs_run(part: &Part, count: u32, end: u32) -> Option<CopyRun>
 // Pointer words that are in one row.
 #[inline(always)]
 fn row_run(segment: u32, at: u32, slot: u32, left: u32) -> Option<CopyRun>
-    ensures places { option_places result ≡ row_places segment at slot left }
+    ensures places { option_places result ≡ copy_row_places segment at slot left }
     ensures full { OptionFull result }
 {
     if left == 0 {

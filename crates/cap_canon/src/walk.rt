@@ -1,7 +1,7 @@
 //! The walk over an accepted message, in preorder: one pointer word a turn.
 
 ghost use Rattle.cap_canon.specs.AtRuns.{AtRun};
-ghost use Rattle.cap_canon.specs.CopyRuns.{root_run};
+ghost use Rattle.cap_canon.specs.CopyRuns.{copy_root_run};
 ghost use Rattle.cap_canon.specs.CopyTurns.{IsTurn, TurnKeeps};
 ghost use Rattle.cap_canon.specs.Kept.{Kept};
 ghost use Rattle.cap_canon.specs.Laying.{Due};
@@ -163,7 +163,7 @@ fn nulls_after<M: Segments>(message: &M, run: &CopyRun) -> u32
 // The root word alone.
 #[inline(always)]
 fn root() -> CopyRun
-    ensures { result ≡ root_run }
+    ensures { result ≡ copy_root_run }
 {
     CopyRun {
         segment: 0,

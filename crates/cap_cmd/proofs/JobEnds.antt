@@ -10,8 +10,9 @@ use Rattle.cap_frame.specs.Limit.{limit_of}
 use Rattle.cap_frame.specs.declared.fault.FrameFault.{FrameFault}
 use Rattle.cap_frame.specs.declared.fault.FrameFault.TheVariants.{Device, Memory, Spent, TooLarge, TooManySegments}
 use Rattle.cap_frame.specs.declared.fault.FrameFault.TheVariants.{Truncated}
-use Rattle.cap_vet.specs.Limits.{depth_of, words_of}
-use Rattle.cap_vet.specs.declared.demands.Demands.{Demands}
+use Rattle.cap_walk.specs.Demands.{no_demands}
+use Rattle.cap_walk.specs.Limits.{depth_of, words_of}
+use Rattle.cap_walk.specs.declared.demands.Demands.{Demands}
 use Rattle.cap_text.specs.declared.fault.Cause.{Cause}
 use Rattle.cap_text.specs.declared.fault.Cause.TheVariants.{Canon, Frame, NotStrict, Output, Refused, TooManyMessages}
 use Rattle.cap_text.specs.declared.fault.Cause.TheVariants.{Memory as no_marks}
@@ -22,13 +23,13 @@ use Rattle.cap_text.specs.declared.fault.RunFault.{RunFault}
 use Rattle.cap_text.specs.declared.fault.SingleFault.{SingleFault}
 use Rattle.cap_text.specs.declared.fault.SingleFault.TheVariants.{NoMessage, Run, Trailing}
 use Rattle.cap_run.specs.Breaking.{run_answer}
-use Rattle.cap_run.specs.Demanding.{no_demands}
-use Rattle.cap_run.specs.Placed.{PlacedReports, ReportsFrom, ReportsPlaced}
+use Rattle.cap_run.specs.Engines.{ReportsPlaced}
+use Rattle.cap_run.specs.Reporting.{PlacedReports, ReportsFrom}
 use Rattle.cap_run.specs.Filtering.{FiltersStream}
 use Rattle.cap_run.specs.Hashing.{AllocatesCopyUnder, ReportsDigestUnder, ReportsHashUnder}
-use Rattle.cap_run.specs.ExplainedJson.{OrFaultExplained, ReportsAcceptedObject, ReportsMarkedExplained}
-use Rattle.cap_run.specs.JsonReports.{OrFaultJson, ReportsAcceptedJson, ReportsCheckedJson, ReportsHashedJson, ReportsMarkedJson}
-use Rattle.cap_run.specs.Single.{ReadsSingle, frame_bytes}
+use Rattle.cap_run.specs.ExplainedJson.{OrFaultExplained, ReportsAcceptedObject, ReportsExclusivenessExplained}
+use Rattle.cap_run.specs.JsonReports.{OrFaultJson, ReportsAcceptedJson, ReportsCheckedJson, ReportsHashedJson, ReportsExclusivenessJson}
+use Rattle.cap_run.specs.Single.{ReadsSingle, padded_frame}
 use Rattle.cap_run.specs.Streams.{EndsStream}
 use Rattle.cap_run.specs.RunNames.{copies_of, ReportsCheckUnder, ReportsDumpUnder, ReportsExclusiveUnder, ReportsGetUnder}
 use Rattle.cap_run.specs.RunNames.{ReportsVerdictUnder, AllocatesMarksUnder, ReportsStream, most_packed_at_once, most_transcoded}
@@ -40,7 +41,7 @@ use Rattle.cap_run.specs.declared.settings.Outcome.{Outcome}
 use Rattle.cap_run.specs.declared.settings.Settings.{Settings}
 use Rattle.cap_run.proofs.FilterEnds.{reads_whole}
 use Rattle.cap_run.proofs.Streams.{reads_all}
-use Rattle.cap_cmd.specs.Jobs.{CanonsInput, CanonsTo, DoesFirst, DoesJob, DoesOne, DoesTask, DoesUnder, EndsOne, ExitsFirst, PlacesInput, ReportsInput, TranscodesInput, TranscodesTo}
+use Rattle.cap_cmd.specs.Jobs.{CanonsInput, CanonsTo, DoesFirst, DoesJob, DoesOne, DoesTask, DoesUnder, EndsOne, ExitsFirst, PlacesInput, WritesReports, TranscodesInput, TranscodesTo}
 use Rattle.cap_cmd.specs.Jobs.{WritesAll, WritesInput, WritesOne, WritesUnder, input_is_cut, input_words}
 use Rattle.cap_cmd.specs.Statuses.{cause_status, frame_status, outcome_status, run_status, single_status, transcode_status}
 use Rattle.cap_cmd.specs.declared.jobs.Job.{Job}
@@ -49,8 +50,8 @@ use Rattle.cap_cmd.specs.declared.jobs.Task.{Task}
 use Rattle.cap_cmd.specs.declared.jobs.Task.TheVariants as task
 use Rattle.cap_cmd.specs.declared.jobs.Work.{Work}
 use Rattle.cap_cmd.specs.declared.jobs.Work.TheVariants as work
-use Rattle.cap_words.specs.declared.ends.ByteIn as input
-use Rattle.cap_words.specs.declared.ends.ByteOut as output
+use Rattle.cap_words.specs.declared.byte_io.ByteIn as input
+use Rattle.cap_words.specs.declared.byte_io.ByteOut as output
 use Rattle.cap_words.specs.declared.sinks.WordSink as sink
 use Rattle.cap_words.specs.declared.sources.WordSource as source
 
@@ -126,7 +127,7 @@ module _ {S O : Type 0} (gs : source.Ghosts S) (go : output.Ghosts O) (s : Setti
   -- all messages were accepted
   reported_all : (reports : Reports) (allocates : List (List ℕ) → Type 0) (before after : O) (r : Result Outcome RunFault)
       → run_status r ≡ 0 → ReportsStream gs go reports allocates (limit_of s.size) s.messages old new before after r
-      → ReportsInput reports s (gs.words old) (gs.is_cut old) (go.written before) (go.written after)
+      → WritesReports reports s (gs.words old) (gs.is_cut old) (go.written before) (go.written after)
   reported_all reports allocates before after (Ok o) e t =
       let k = t.ok in all_reported (ReportsEach reports 0) before after o k.0 e k.5 k.1 k.2 k.3 k.4
   reported_all reports allocates before after (Err fault) e t = absurd (cause_fails fault.cause e)
@@ -144,7 +145,7 @@ module _ {S O : Type 0} (gs : source.Ghosts S) (go : output.Ghosts O) (s : Setti
       (allocates : List (List ℕ) → Type 0) (before after : O) (first last : E)
       (r : Result Outcome RunFault) → run_status r ≡ 0
       → FiltersStream gs go ge form verdict allocates (limit_of s.size) s.messages old new before after first last r
-      → ReportsInput (PassesOn form.pack verdict) s (gs.words old) (gs.is_cut old) (go.written before) (go.written after)
+      → WritesReports (PassesOn form.pack verdict) s (gs.words old) (gs.is_cut old) (go.written before) (go.written after)
   passed_all ge form verdict allocates before after first last (Ok o) e t =
       let k = t.ok in
       let none = none_refused (outcome_of k.0) (subst (λ (x : Outcome). outcome_status x ≡ 0) k.5 e) in
@@ -237,14 +238,14 @@ module _ {S O E U : Type 0} (gs : source.Ghosts S) (go : output.Ghosts O) (ge : 
       reported_all gs go s first d.last (OrFaultJson demands ReportsAcceptedJson s.limits) AllocatesNone before after d.answer
       (sym d.exited.status_is ∙ e) d.does
   writes_under demands (work.Json (report.Vet true)) packed s first before after old new status e d =
-      reported_all gs go s first d.last (OrFaultJson demands ReportsMarkedJson s.limits)
+      reported_all gs go s first d.last (OrFaultJson demands ReportsExclusivenessJson s.limits)
       (AllocatesMarksUnder demands (words_of s.limits) (depth_of s.limits)) before after d.answer
       (sym d.exited.status_is ∙ e) d.does
   writes_under demands (work.Json (report.Explain false canonical)) packed s first before after old new status e d =
       placed_all gs go s first d.last (OrFaultExplained demands (ReportsAcceptedObject canonical) s.limits) AllocatesNone
       before after (run_answer d.answer) (sym d.exited.status_is ∙ e) d.does.reported
   writes_under demands (work.Json (report.Explain true canonical)) packed s first before after old new status e d =
-      placed_all gs go s first d.last (OrFaultExplained demands (ReportsMarkedExplained canonical) s.limits)
+      placed_all gs go s first d.last (OrFaultExplained demands (ReportsExclusivenessExplained canonical) s.limits)
       (AllocatesMarksUnder demands (words_of s.limits) (depth_of s.limits)) before after (run_answer d.answer)
       (sym d.exited.status_is ∙ e) d.does.reported
   writes_under demands (work.Json report.Check) packed s first before after old new status e d =
@@ -305,7 +306,7 @@ module _ {S F O E U : Type 0} (gs : source.Ghosts S) (gf : source.Ghosts F) (go 
             message = message.0;
             stream = all.stream;
             within = all.within.0;
-            written = subst (λ c. WritesUnder demands w packed s (input_words false (Some (frame_bytes message.0))) c
+            written = subst (λ c. WritesUnder demands w packed s (input_words false (Some (padded_frame message.0))) c
                 (go.written before) (go.written after)) cut
                 (subst (λ ws. WritesUnder demands w packed s ws (gf.is_cut over) (go.written before) (go.written after)) words written);
           }

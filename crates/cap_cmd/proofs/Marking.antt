@@ -6,8 +6,8 @@ use Rattle.std.proofs.lemmas.Bool.{and_from, and_parts, cases_order, ltb-false, 
 use Rattle.std.proofs.lemmas.List.{append-nil, append_assoc}
 use Rattle.std.proofs.lemmas.Slice.Eq.{bytes_eq-Decides}
 use Rattle.cap_spec.proofs.ProofNames.{length-take-le, take-add, take_all, take_rest, ◌-◌}
-use Rattle.cap_cmd.specs.Marking.{IsPiece, column_after, is_marked, mark_at, mark_length, mark_name, next_column, shown, shown_if, shown_of}
-use Rattle.cap_cmd.specs.Marking.{lines_of, marked_line, marked_text, with_byte, with_marks, without_marks}
+use Rattle.cap_cmd.specs.Marking.{IsPiece, column_after, is_marked, mark_at, mark_length, mark_name, next_column, shown_text, shown_if, shown_of}
+use Rattle.cap_cmd.specs.Marking.{text_lines, marked_line, marked_text, with_byte, with_marks, without_marks}
 
 -- a text in two parts
 marks_append : (place : ℕ) (mark : List ℕ) (column : ℕ) (a b : List ℕ)
@@ -60,16 +60,16 @@ unmarked place mark column (x ∷ text) done within pending =
     ∙ ap (λ (t : List ℕ). x ∷ t) (unmarked place mark next text done within pending)
 
 -- bytes that a mark and a text make
-pub record IsShown (place : ℕ) (mark : List ℕ) (column done : ℕ) (bytes shown : List ℕ) : Type 0 where
+pub record IsShown (place : ℕ) (mark : List ℕ) (column done : ℕ) (bytes shown_text : List ℕ) : Type 0 where
   pub text : List ℕ
   pub bytes_are : bytes ≡ with_marks place mark 0 text ++ take done mark
   pub column_is : column_after place 0 text ≡ column
   pub pending : ((column == place) || (done == 0)) ≡ true
-  pub shown_is : shown ≡ mark_name place mark ++ text
+  pub shown_is : shown_text ≡ mark_name place mark ++ text
 
 pub shown_made : (place : ℕ) (mark : List ℕ) (column done : ℕ) (text : List ℕ) → done ≤ length mark
     → column_after place 0 text ≡ column → ((column == place) || (done == 0)) ≡ true
-    → shown place mark column done (Some (with_marks place mark 0 text ++ take done mark)) ≡ Some (mark_name place mark ++ text)
+    → shown_text place mark column done (Some (with_marks place mark 0 text ++ take done mark)) ≡ Some (mark_name place mark ++ text)
 shown_made place mark column done text within at pending =
     let bytes = with_marks place mark 0 text ++ take done mark in
     let ends : ((column_after place 0 text == place) || (done == 0)) ≡ true = subst (λ (c : ℕ). ((c == place) || (done == 0)) ≡ true) (sym at) pending in
@@ -95,7 +95,7 @@ shown_by true place mark column done text bytes w holds e =
     }
 shown_by false place mark column done text bytes w holds e = absurd (grind (arith, e))
 
-pub shown_some : (place : ℕ) (mark : List ℕ) (column done : ℕ) (bytes w : List ℕ) → shown place mark column done (Some bytes) ≡ Some w
+pub shown_some : (place : ℕ) (mark : List ℕ) (column done : ℕ) (bytes w : List ℕ) → shown_text place mark column done (Some bytes) ≡ Some w
     → IsShown place mark column done bytes w
 shown_some place mark column done bytes w e =
     let text = without_marks place (length mark) 0 (mark_length place (length mark) 0) bytes in
@@ -105,12 +105,12 @@ shown_some place mark column done bytes w e =
 pub piece_shown : (place : ℕ) (mark : List ℕ) (column done : ℕ) (a b : Option (List ℕ)) (piece : List ℕ)
     → (((column == place) || (done == 0)) ≡ true → with_marks place mark column piece ≡ take done mark ++ piece)
     → Appends a b piece
-    → Appends (shown place mark column done a) (shown place mark (column_after place column piece) 0 b) piece
+    → Appends (shown_text place mark column done a) (shown_text place mark (column_after place column piece) 0 b) piece
 piece_shown place mark column done None b piece puts grown = tt
 piece_shown place mark column done (Some xs) None piece puts grown = absurd grown
-piece_shown place mark column done (Some xs) (Some ys) piece puts grown = of (shown place mark column done (Some xs)) refl
+piece_shown place mark column done (Some xs) (Some ys) piece puts grown = of (shown_text place mark column done (Some xs)) refl
   where
-    made : (w : List ℕ) → IsShown place mark column done xs w → shown place mark (column_after place column piece) 0 (Some ys) ≡ Some (w ++ piece)
+    made : (w : List ℕ) → IsShown place mark column done xs w → shown_text place mark (column_after place column piece) 0 (Some ys) ≡ Some (w ++ piece)
     made w t =
         let name = mark_name place mark in
         let puts_it = puts t.pending in
@@ -122,34 +122,34 @@ piece_shown place mark column done (Some xs) (Some ys) piece puts grown = of (sh
         ∙ ap (λ (l : List ℕ). l ++ piece) (sym t.bytes_are) ∙ sym grown in
         let at : column_after place 0 (t.text ++ piece) ≡ column_after place column piece =
         columns_append place 0 t.text piece ∙ ap (λ (c : ℕ). column_after place c piece) t.column_is in
-        ap (λ (l : List ℕ). shown place mark (column_after place column piece) 0 (Some l)) (sym all)
+        ap (λ (l : List ℕ). shown_text place mark (column_after place column piece) 0 (Some l)) (sym all)
         ∙ shown_made place mark (column_after place column piece) 0 (t.text ++ piece) (omega arith) at (or_right _ _ refl)
         ∙ ap Some (sym (append_assoc name t.text piece) ∙ ap (λ (l : List ℕ). l ++ piece) (sym t.shown_is))
 
-    of : (o : Option (List ℕ)) → shown place mark column done (Some xs) ≡ o
-        → Appends o (shown place mark (column_after place column piece) 0 (Some ys)) piece
+    of : (o : Option (List ℕ)) → shown_text place mark column done (Some xs) ≡ o
+        → Appends o (shown_text place mark (column_after place column piece) 0 (Some ys)) piece
     of None e = tt
     of (Some w) e = subst (λ (o : Option (List ℕ)). Appends (Some w) o piece) (sym (made w (shown_some place mark column done xs w e))) refl
 
 -- more of a mark
 pub mark_shown : (place : ℕ) (mark : List ℕ) (column done n : ℕ) (a b : Option (List ℕ)) → column ≡ place → done + n ≤ length mark
     → Appends a b (take n (drop done mark))
-    → Keeps (shown place mark column done a) (shown place mark column (done + n) b)
+    → Keeps (shown_text place mark column done a) (shown_text place mark column (done + n) b)
 mark_shown place mark column done n None b at within grown = tt
 mark_shown place mark column done n (Some xs) None at within grown = absurd grown
-mark_shown place mark column done n (Some xs) (Some ys) at within grown = of (shown place mark column done (Some xs)) refl
+mark_shown place mark column done n (Some xs) (Some ys) at within grown = of (shown_text place mark column done (Some xs)) refl
   where
-    made : (w : List ℕ) → IsShown place mark column done xs w → shown place mark column (done + n) (Some ys) ≡ Some w
+    made : (w : List ℕ) → IsShown place mark column done xs w → shown_text place mark column (done + n) (Some ys) ≡ Some w
     made w t =
         let all : with_marks place mark 0 t.text ++ take (done + n) mark ≡ ys =
         ap (λ (l : List ℕ). with_marks place mark 0 t.text ++ l) (take-add done n mark)
         ∙ sym (append_assoc (with_marks place mark 0 t.text) (take done mark) (take n (drop done mark)))
         ∙ ap (λ (l : List ℕ). l ++ take n (drop done mark)) (sym t.bytes_are) ∙ sym grown in
-        ap (λ (l : List ℕ). shown place mark column (done + n) (Some l)) (sym all)
+        ap (λ (l : List ℕ). shown_text place mark column (done + n) (Some l)) (sym all)
         ∙ shown_made place mark column (done + n) t.text within t.column_is (or_left _ _ (eq-eqb column place at))
         ∙ ap Some (sym t.shown_is)
 
-    of : (o : Option (List ℕ)) → shown place mark column done (Some xs) ≡ o → Keeps o (shown place mark column (done + n) (Some ys))
+    of : (o : Option (List ℕ)) → shown_text place mark column done (Some xs) ≡ o → Keeps o (shown_text place mark column (done + n) (Some ys))
     of None e = tt
     of (Some w) e = subst (λ (o : Option (List ℕ)). Keeps (Some w) o) (sym (made w (shown_some place mark column done xs w e))) refl
 
@@ -217,9 +217,9 @@ take_next (x ∷ xs) (suc n) inside = ap (λ (l : List ℕ). x ∷ l) (take_next
 
 -- more of a mark, by how a write was asked for the rest of it
 pub more_shown : (place : ℕ) (mark : List ℕ) (column done n : ℕ) (a b : Option (List ℕ)) (before : Option (List ℕ)) → column ≡ place → done + n ≤ length mark
-    → Keeps before (shown place mark column done a)
+    → Keeps before (shown_text place mark column done a)
     → Appends a b (take n (take (length mark - done) (drop done mark)))
-    → Keeps before (shown place mark column (done + n) b)
+    → Keeps before (shown_text place mark column (done + n) b)
 more_shown place mark column done n a b before at within kept grown =
     kept_on before _ _ kept (mark_shown place mark column done n a b at within (subst (λ (l : List ℕ). Appends a b (take n l)) (take_rest mark done) grown))
   where
@@ -275,7 +275,7 @@ pub body_shown : (place : ℕ) (mark : List ℕ) (column done next most count : 
     → (place ≤ column → (n : ℕ) → n < most → IsPiece (take n buf))
     → next ≡ next_column place column (get_or buf (count - 1) 0)
     → Appends a b (take count buf)
-    → Appends (shown place mark column done a) (shown place mark next 0 b) (take count buf)
+    → Appends (shown_text place mark column done a) (shown_text place mark next 0 b) (take count buf)
 body_shown place mark column done next most count buf a b some within inside whole one pieces is_next grown =
     let xs = take (count - 1) buf in
     let last = get_or buf (count - 1) 0 in
@@ -284,8 +284,8 @@ body_shown place mark column done next most count buf a b some within inside who
     let alone : column < place → xs ≡ [] = λ below.
     let none : count - 1 ≡ 0 = omega (arith, one below, within) in ap (λ (n : ℕ). take n buf) none in
     let puts = last_shown place mark column done xs last whole alone (λ past. pieces past (count - 1) (omega (arith, some, within))) in
-    subst (λ (l : List ℕ). Appends (shown place mark column done a) (shown place mark next 0 b) l) (sym split)
-    (subst (λ (n : ℕ). Appends (shown place mark column done a) (shown place mark n 0 b) (xs ++ last ∷ [])) (puts.1 ∙ sym is_next)
+    subst (λ (l : List ℕ). Appends (shown_text place mark column done a) (shown_text place mark next 0 b) l) (sym split)
+    (subst (λ (n : ℕ). Appends (shown_text place mark column done a) (shown_text place mark n 0 b) (xs ++ last ∷ [])) (puts.1 ∙ sym is_next)
     (piece_shown place mark column done a b (xs ++ last ∷ []) puts.0 (subst (λ (l : List ℕ). Appends a b l) split grown)))
 
 -- bytes that stay
@@ -314,17 +314,17 @@ append_same (x ∷ a) (y ∷ b) c d long e =
     (ap (λ (n : ℕ). n ∷ a) parts.0 ∙ ap (λ (l : List ℕ). y ∷ l) rest.0, rest.1)
 
 -- an empty output
-pub shown_empty : (place : ℕ) (mark : List ℕ) → shown place mark 0 0 (Some []) ≡ Some (mark_name place mark)
+pub shown_empty : (place : ℕ) (mark : List ℕ) → shown_text place mark 0 0 (Some []) ≡ Some (mark_name place mark)
 shown_empty place mark = shown_made place mark 0 0 [] (omega arith) refl (or_right _ _ refl) ∙ ap Some (append-nil (mark_name place mark))
 
 -- what an output has that was empty, after a text was shown
 pub final_text : (place : ℕ) (mark : List ℕ) (at : ℕ) (other : List ℕ) (column done : ℕ) (bytes text : List ℕ)
-    → Appends (shown place mark 0 0 (Some [])) (shown at other column done (Some bytes)) text
+    → Appends (shown_text place mark 0 0 (Some [])) (shown_text at other column done (Some bytes)) text
     → bytes ≡ with_marks place mark 0 text ++ take done mark
-final_text place mark at other column done bytes text grown = of (shown at other column done (Some bytes)) refl
-    (subst (λ (o : Option (List ℕ)). Appends o (shown at other column done (Some bytes)) text) begun grown)
+final_text place mark at other column done bytes text grown = of (shown_text at other column done (Some bytes)) refl
+    (subst (λ (o : Option (List ℕ)). Appends o (shown_text at other column done (Some bytes)) text) begun grown)
   where
-    begun : shown place mark 0 0 (Some []) ≡ Some (mark_name place mark)
+    begun : shown_text place mark 0 0 (Some []) ≡ Some (mark_name place mark)
     begun = shown_empty place mark
 
     same : (w : List ℕ) → IsShown at other column done bytes w → w ≡ mark_name place mark ++ text → bytes ≡ with_marks place mark 0 text ++ take done mark
@@ -337,7 +337,7 @@ final_text place mark at other column done bytes text grown = of (shown at other
         ∙ ap (λ (l : List ℕ). with_marks place l 0 t.text ++ take done l) parts.0
         ∙ ap (λ (l : List ℕ). with_marks place mark 0 l ++ take done mark) parts.1
 
-    of : (o : Option (List ℕ)) → shown at other column done (Some bytes) ≡ o → Appends (Some (mark_name place mark)) (shown at other column done (Some bytes)) text
+    of : (o : Option (List ℕ)) → shown_text at other column done (Some bytes) ≡ o → Appends (Some (mark_name place mark)) (shown_text at other column done (Some bytes)) text
         → bytes ≡ with_marks place mark 0 text ++ take done mark
     of None e g = absurd (subst (λ (o : Option (List ℕ)). Appends (Some (mark_name place mark)) o text) e g)
     of (Some w) e g = same w (shown_some at other column done bytes w e)
@@ -402,7 +402,7 @@ first_lines : (place : ℕ) (mark : List ℕ) (lines : List (List ℕ)) → from
 first_lines place mark [] = refl
 first_lines place mark (line ∷ lines) = ap (λ (l : List ℕ). l ++ flat_map (marked_line place mark) lines) (whole_marked place mark line)
 
-by_lines : (place : ℕ) (mark : List ℕ) (column : ℕ) (text : List ℕ) → with_marks place mark column text ≡ from_lines place mark column (lines_of text)
+by_lines : (place : ℕ) (mark : List ℕ) (column : ℕ) (text : List ℕ) → with_marks place mark column text ≡ from_lines place mark column (text_lines text)
 by_lines place mark column [] = refl
 by_lines place mark column (b ∷ text) = of (b == 10) (λ c. by_lines place mark c text) refl
   where
@@ -413,20 +413,20 @@ by_lines place mark column (b ∷ text) = of (b == 10) (λ c. by_lines place mar
         ap (λ (n : ℕ). mark_at place mark column ++ (b ∷ (rest_marked place mark n line ++ flat_map (marked_line place mark) lines))) e
         ∙ sym (append_assoc (mark_at place mark column) (b ∷ rest_marked place mark (if nat_lt place column then column else suc column) line) (flat_map (marked_line place mark) lines))
 
-    of : (t : Bool) → ((c : ℕ) → with_marks place mark c text ≡ from_lines place mark c (lines_of text)) → (b == 10) ≡ t → with_marks place mark column (b ∷ text) ≡ from_lines place mark column (lines_of (b ∷ text))
+    of : (t : Bool) → ((c : ℕ) → with_marks place mark c text ≡ from_lines place mark c (text_lines text)) → (b == 10) ≡ t → with_marks place mark column (b ∷ text) ≡ from_lines place mark column (text_lines (b ∷ text))
     of true known e =
         let next : next_column place column b ≡ 0 = ap (λ (t : Bool). if t then 0 else (if nat_lt place column then column else suc column)) e in
-        let lines : lines_of (b ∷ text) ≡ (b ∷ []) ∷ lines_of text = ap (λ (t : Bool). if t then (b ∷ []) ∷ lines_of text else with_byte b (lines_of text)) e in
+        let lines : text_lines (b ∷ text) ≡ (b ∷ []) ∷ text_lines text = ap (λ (t : Bool). if t then (b ∷ []) ∷ text_lines text else with_byte b (text_lines text)) e in
         ap (λ (n : ℕ). mark_at place mark column ++ (b ∷ with_marks place mark n text)) next
-        ∙ ap (λ (l : List ℕ). mark_at place mark column ++ (b ∷ l)) (known 0 ∙ first_lines place mark (lines_of text))
-        ∙ sym (append_assoc (mark_at place mark column) (b ∷ []) (flat_map (marked_line place mark) (lines_of text)))
+        ∙ ap (λ (l : List ℕ). mark_at place mark column ++ (b ∷ l)) (known 0 ∙ first_lines place mark (text_lines text))
+        ∙ sym (append_assoc (mark_at place mark column) (b ∷ []) (flat_map (marked_line place mark) (text_lines text)))
         ∙ ap (λ (ls : List (List ℕ)). from_lines place mark column ls) (sym lines)
     of false known e =
         let next = next_within place column b e in
-        let lines : lines_of (b ∷ text) ≡ with_byte b (lines_of text) = ap (λ (t : Bool). if t then (b ∷ []) ∷ lines_of text else with_byte b (lines_of text)) e in
+        let lines : text_lines (b ∷ text) ≡ with_byte b (text_lines text) = ap (λ (t : Bool). if t then (b ∷ []) ∷ text_lines text else with_byte b (text_lines text)) e in
         ap (λ (l : List ℕ). mark_at place mark column ++ (b ∷ l)) (known (next_column place column b))
-        ∙ joined (lines_of text) (next_column place column b) next
+        ∙ joined (text_lines text) (next_column place column b) next
         ∙ ap (λ (ls : List (List ℕ)). from_lines place mark column ls) (sym lines)
 
 pub marked_lines : (place : ℕ) (mark text : List ℕ) → with_marks place mark 0 text ≡ marked_text place mark text
-marked_lines place mark text = by_lines place mark 0 text ∙ first_lines place mark (lines_of text)
+marked_lines place mark text = by_lines place mark 0 text ∙ first_lines place mark (text_lines text)

@@ -4,9 +4,9 @@ use Rattle.std.specs.Global.{Vec}
 use Rattle.cap_spec.specs.GreatestLimits.{most_depth, most_words}
 use Rattle.cap_spec.specs.declared.Step.{Step}
 use Rattle.cap_frame.specs.Limit.{limit_of}
-use Rattle.cap_vet.specs.Limits.{depth_of, words_of}
-use Rattle.cap_vet.specs.declared.demands.Demands.{Demands}
-use Rattle.cap_run.specs.Demanding.{no_demands}
+use Rattle.cap_walk.specs.Demands.{no_demands}
+use Rattle.cap_walk.specs.Limits.{depth_of, words_of}
+use Rattle.cap_walk.specs.declared.demands.Demands.{Demands}
 use Rattle.cap_run.specs.Engines.{most_messages}
 use Rattle.cap_run.specs.declared.settings.FilterForm.{FilterForm}
 use Rattle.cap_cmd.specs.declared.asking.Command.{Command}

@@ -10,8 +10,8 @@ use Rattle.cap_cmd.specs.declared.jobs.Job.{Job}
 use Rattle.cap_cmd.specs.declared.jobs.Task.{Task}
 use Rattle.cap_cmd.specs.declared.jobs.Task.TheVariants as task
 use Rattle.cap_cmd.specs.declared.jobs.Work.TheVariants as work
-use Rattle.cap_words.specs.declared.ends.ByteIn as input
-use Rattle.cap_words.specs.declared.ends.ByteOut as output
+use Rattle.cap_words.specs.declared.byte_io.ByteIn as input
+use Rattle.cap_words.specs.declared.byte_io.ByteOut as output
 use Rattle.cap_words.specs.declared.sinks.WordSink as sink
 use Rattle.cap_words.specs.declared.sources.WordSource as source
 

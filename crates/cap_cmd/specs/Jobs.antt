@@ -12,11 +12,12 @@ use Rattle.cap_spec.specs.Plain.{plain_ends}
 use Rattle.cap_spec.specs.SpecNames.{Stream, sizes_of, pack_text, plain_is_cut, plain_text, plain_words, packed_is_cut}
 use Rattle.cap_spec.specs.SpecNames.{unpacked}
 use Rattle.cap_words.specs.Vectors.{vec_written}
-use Rattle.cap_words.specs.declared.ends.OutFault.{OutFault}
+use Rattle.cap_words.specs.declared.byte_io.OutFault.{OutFault}
 use Rattle.cap_words.specs.declared.vec_out.VecOut.{VecOut}
 use Rattle.cap_frame.specs.Limit.{limit_of}
-use Rattle.cap_vet.specs.Limits.{depth_of, words_of}
-use Rattle.cap_vet.specs.declared.demands.Demands.{Demands}
+use Rattle.cap_walk.specs.Demands.{no_demands}
+use Rattle.cap_walk.specs.Limits.{depth_of, words_of}
+use Rattle.cap_walk.specs.declared.demands.Demands.{Demands}
 use Rattle.cap_text.specs.BreakLines.{explained_fault_text}
 use Rattle.cap_text.specs.FaultLines.{copy_fault_line, run_fault_line, single_fault_line}
 use Rattle.cap_text.specs.Guesses.{guessed_fault_text}
@@ -27,14 +28,13 @@ use Rattle.cap_text.specs.declared.fault.RunFault.{RunFault}
 use Rattle.cap_text.specs.declared.fault.SingleFault.{SingleFault}
 use Rattle.cap_text.specs.declared.fault.SingleFault.TheVariants.{NoMessage}
 use Rattle.cap_run.specs.Breaking.{ExplainsStream, run_answer}
-use Rattle.cap_run.specs.Placed.{PlacedReports, ReportsFrom}
-use Rattle.cap_run.specs.Demanding.{no_demands}
+use Rattle.cap_run.specs.Reporting.{PlacedReports, ReportsFrom}
 use Rattle.cap_run.specs.Engines.{ShowsStream}
 use Rattle.cap_run.specs.Hashing.{AllocatesCopyUnder, ReportsDigestUnder, ReportsHashUnder}
-use Rattle.cap_run.specs.Single.{EndsSingle, ReadsSingle, frame_bytes}
+use Rattle.cap_run.specs.Single.{EndsSingle, ReadsSingle, padded_frame}
 use Rattle.cap_run.specs.Filtering.{FiltersUnder}
-use Rattle.cap_run.specs.ExplainedJson.{OrFaultExplained, ReportsAcceptedObject, ReportsMarkedExplained}
-use Rattle.cap_run.specs.JsonReports.{OrFaultJson, ReportsAcceptedJson, ReportsCheckedJson, ReportsHashedJson, ReportsMarkedJson}
+use Rattle.cap_run.specs.ExplainedJson.{OrFaultExplained, ReportsAcceptedObject, ReportsExclusivenessExplained}
+use Rattle.cap_run.specs.JsonReports.{OrFaultJson, ReportsAcceptedJson, ReportsCheckedJson, ReportsHashedJson, ReportsExclusivenessJson}
 use Rattle.cap_run.specs.RunNames.{AreCanonised, Canonised, MakesCopiesUnder, canonised, copies_of, ReportsCheckUnder}
 use Rattle.cap_run.specs.RunNames.{ReportsDumpUnder, ReportsExclusiveUnder, ReportsGetUnder, ReportsVerdictUnder}
 use Rattle.cap_run.specs.RunNames.{AllocatesMarksUnder, ReportsStream, TranscodesWords, most_packed_at_once, most_transcoded}
@@ -51,8 +51,8 @@ use Rattle.cap_cmd.specs.declared.jobs.Task.{Task}
 use Rattle.cap_cmd.specs.declared.jobs.Task.TheVariants as task
 use Rattle.cap_cmd.specs.declared.jobs.Work.{Work}
 use Rattle.cap_cmd.specs.declared.jobs.Work.TheVariants as work
-use Rattle.cap_words.specs.declared.ends.ByteIn as input
-use Rattle.cap_words.specs.declared.ends.ByteOut as output
+use Rattle.cap_words.specs.declared.byte_io.ByteIn as input
+use Rattle.cap_words.specs.declared.byte_io.ByteOut as output
 use Rattle.cap_words.specs.declared.sinks.WordSink as sink
 use Rattle.cap_words.specs.declared.sources.WordSource as source
 
@@ -304,13 +304,13 @@ module _ {S O E U : Type 0} (gs : source.Ghosts S) (go : output.Ghosts O) (ge : 
   DoesUnder demands (work.Json (report.Vet false)) packed s first before after =
       ReportsTask gs go ge (OrFaultJson demands ReportsAcceptedJson s.limits) AllocatesNone s first before after
   DoesUnder demands (work.Json (report.Vet true)) packed s first before after =
-      ReportsTask gs go ge (OrFaultJson demands ReportsMarkedJson s.limits)
+      ReportsTask gs go ge (OrFaultJson demands ReportsExclusivenessJson s.limits)
       (AllocatesMarksUnder demands (words_of s.limits) (depth_of s.limits)) s first before after
   DoesUnder demands (work.Json (report.Explain false canonical)) packed s first before after =
       ExplainsTask gs go ge (OrFaultExplained demands (ReportsAcceptedObject canonical) s.limits) AllocatesNone packed s
       first before after
   DoesUnder demands (work.Json (report.Explain true canonical)) packed s first before after =
-      ExplainsTask gs go ge (OrFaultExplained demands (ReportsMarkedExplained canonical) s.limits)
+      ExplainsTask gs go ge (OrFaultExplained demands (ReportsExclusivenessExplained canonical) s.limits)
       (AllocatesMarksUnder demands (words_of s.limits) (depth_of s.limits)) packed s first before after
   DoesUnder demands (work.Json report.Check) packed s first before after =
       ReportsTask gs go ge (OrFaultJson demands ReportsCheckedJson s.limits) AllocatesNone s first before after
@@ -416,9 +416,9 @@ pub record WritesInput (each : List Reported → Type 0) (s : Settings) (words :
   pub appended : Appends before after (texts_of ts)
 
 -- the text of each is one that may be written of it by its number
-abbrev pub ReportsInput : Reports → Settings → Option (List ℕ) → Bool → Option (List ℕ)
+abbrev pub WritesReports : Reports → Settings → Option (List ℕ) → Bool → Option (List ℕ)
     → Option (List ℕ) → Type 0
-ReportsInput reports = WritesInput (ReportsEach reports 0)
+WritesReports reports = WritesInput (ReportsEach reports 0)
 
 -- the same by where it begins too
 abbrev pub PlacesInput : PlacedReports → Settings → Option (List ℕ) → Bool → Option (List ℕ)
@@ -450,34 +450,34 @@ pub record TranscodesInput (text : List ℕ → List ℕ) (words : Option (List 
 abbrev pub WritesUnder : Demands → Work → Bool → Settings → Option (List ℕ) → Bool → Option (List ℕ)
     → Option (List ℕ) → Type 0
 WritesUnder demands (work.Vet false) packed s =
-    ReportsInput (ReportsVerdictUnder demands (words_of s.limits) (depth_of s.limits)) s
+    WritesReports (ReportsVerdictUnder demands (words_of s.limits) (depth_of s.limits)) s
 WritesUnder demands (work.Vet true) packed s =
-    ReportsInput (ReportsExclusiveUnder demands (words_of s.limits) (depth_of s.limits)) s
+    WritesReports (ReportsExclusiveUnder demands (words_of s.limits) (depth_of s.limits)) s
 WritesUnder demands (work.Explain false canonical) packed s =
     PlacesInput (ReportsExplainedUnder packed canonical demands (words_of s.limits) (depth_of s.limits)) s
 WritesUnder demands (work.Explain true canonical) packed s =
     PlacesInput (ReportsExplainedExclusiveUnder packed canonical demands (words_of s.limits) (depth_of s.limits)) s
 WritesUnder demands (work.Filter form) packed s =
-    ReportsInput (PassesOn form.pack (ReportsIn form demands s.limits)) s
+    WritesReports (PassesOn form.pack (ReportsIn form demands s.limits)) s
 WritesUnder demands work.Dump packed s =
-    ReportsInput (ReportsDumpUnder demands (words_of s.limits) (depth_of s.limits)) s
+    WritesReports (ReportsDumpUnder demands (words_of s.limits) (depth_of s.limits)) s
 WritesUnder demands (work.Get path) packed s =
-    ReportsInput (ReportsGetUnder demands (words_of s.limits) (depth_of s.limits) path.items) s
+    WritesReports (ReportsGetUnder demands (words_of s.limits) (depth_of s.limits) path.items) s
 WritesUnder demands work.Check packed s =
-    ReportsInput (ReportsCheckUnder demands (words_of s.limits) (depth_of s.limits)) s
+    WritesReports (ReportsCheckUnder demands (words_of s.limits) (depth_of s.limits)) s
 WritesUnder demands work.Canon packed s = CanonsInput s demands
 WritesUnder demands (work.Hash false) packed s =
-    ReportsInput (ReportsHashUnder demands (words_of s.limits) (depth_of s.limits)) s
+    WritesReports (ReportsHashUnder demands (words_of s.limits) (depth_of s.limits)) s
 WritesUnder demands (work.Hash true) packed s =
-    ReportsInput (ReportsDigestUnder demands (words_of s.limits) (depth_of s.limits)) s
-WritesUnder demands (work.Json (report.Vet false)) packed s = ReportsInput (OrFaultJson demands ReportsAcceptedJson s.limits) s
-WritesUnder demands (work.Json (report.Vet true)) packed s = ReportsInput (OrFaultJson demands ReportsMarkedJson s.limits) s
+    WritesReports (ReportsDigestUnder demands (words_of s.limits) (depth_of s.limits)) s
+WritesUnder demands (work.Json (report.Vet false)) packed s = WritesReports (OrFaultJson demands ReportsAcceptedJson s.limits) s
+WritesUnder demands (work.Json (report.Vet true)) packed s = WritesReports (OrFaultJson demands ReportsExclusivenessJson s.limits) s
 WritesUnder demands (work.Json (report.Explain false canonical)) packed s =
     PlacesInput (OrFaultExplained demands (ReportsAcceptedObject canonical) s.limits) s
 WritesUnder demands (work.Json (report.Explain true canonical)) packed s =
-    PlacesInput (OrFaultExplained demands (ReportsMarkedExplained canonical) s.limits) s
-WritesUnder demands (work.Json report.Check) packed s = ReportsInput (OrFaultJson demands ReportsCheckedJson s.limits) s
-WritesUnder demands (work.Json report.Hash) packed s = ReportsInput (OrFaultJson demands ReportsHashedJson s.limits) s
+    PlacesInput (OrFaultExplained demands (ReportsExclusivenessExplained canonical) s.limits) s
+WritesUnder demands (work.Json report.Check) packed s = WritesReports (OrFaultJson demands ReportsCheckedJson s.limits) s
+WritesUnder demands (work.Json report.Hash) packed s = WritesReports (OrFaultJson demands ReportsHashedJson s.limits) s
 
 -- All words are the frame of one message within the limit, and none is cut short. What was written is
 -- what the work writes with the status of success of this frame, with zero padding.
@@ -488,13 +488,13 @@ pub record WritesOne (demands : Demands) (w : Work) (packed : Bool) (s : Setting
   pub message : List (List ℕ)
   pub stream : Stream own (message ∷ [])
   pub within : sum (sizes_of message) ≤ limit_of s.size
-  pub written : WritesUnder demands w packed s (input_words false (Some (frame_bytes message)))
-      (input_is_cut false (Some (frame_bytes message))) before after
+  pub written : WritesUnder demands w packed s (input_words false (Some (padded_frame message)))
+      (input_is_cut false (Some (padded_frame message))) before after
 
 -- What a task with the status of success wrote of all words, by the task.
 abbrev pub WritesAll : Task → Bool → Settings → Option (List ℕ) → Bool → Option (List ℕ)
     → Option (List ℕ) → Type 0
-WritesAll task.Segments packed s = ReportsInput ReportsSegments s
+WritesAll task.Segments packed s = WritesReports ReportsSegments s
 WritesAll (task.Vet exclusive) packed s = WritesUnder no_demands (work.Vet exclusive) packed s
 WritesAll task.Dump packed s = WritesUnder no_demands work.Dump packed s
 WritesAll (task.Get path) packed s = WritesUnder no_demands (work.Get path) packed s

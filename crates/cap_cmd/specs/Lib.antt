@@ -3,5 +3,6 @@ pub mod Files
 pub mod Jobs
 pub mod Marked
 pub mod Marking
+pub mod Naming
 pub mod Sizes
 pub mod Statuses

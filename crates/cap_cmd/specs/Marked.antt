@@ -1,11 +1,11 @@
 -- An output that puts marks into lines, by its parts (profile).
 use Rattle.std.specs.Io.KnownBytes.{Keeps}
 use Rattle.std.specs.Prelude.{IsErrOf, List, OnOk, Option, Result, ℕ, ◌≡◌, length, true}
-use Rattle.cap_words.specs.Ends.{AllocationFails, DeviceFails}
-use Rattle.cap_words.specs.declared.ends.OutFault.{OutFault}
-use Rattle.cap_words.specs.declared.ends.OutFault.TheVariants.{Device, Memory, Spent}
-use Rattle.cap_words.specs.declared.ends.ByteOut as output
-use Rattle.cap_cmd.specs.Marking.{shown}
+use Rattle.cap_words.specs.ByteIo.{AllocationFails, DeviceFails}
+use Rattle.cap_words.specs.declared.byte_io.OutFault.{OutFault}
+use Rattle.cap_words.specs.declared.byte_io.OutFault.TheVariants.{Device, Memory, Spent}
+use Rattle.cap_words.specs.declared.byte_io.ByteOut as output
+use Rattle.cap_cmd.specs.Marking.{shown_text}
 use Rattle.cap_cmd.specs.declared.marked.MarkedLines.{MarkedLines}
 
 -- `marked.into_inner()`
@@ -26,7 +26,7 @@ pub record IsFresh {O : Type 0} (s : MarkedLines O) (mark : List ℕ) (place : �
 module _ {O : Type 0} (g : output.Ghosts O) where
   -- the text that it was given, with its mark and place in front
   abbrev pub shown_by : MarkedLines O → Option (List ℕ)
-  shown_by s = shown s.place s.mark.items s.column s.done (g.written s.out)
+  shown_by s = shown_text s.place s.mark.items s.column s.done (g.written s.out)
 
   -- the mark is written to its end, or the output failed in it
   pub record Finishes (old new : MarkedLines O) (r : Result (Unit {0}) OutFault) : Type 0 where

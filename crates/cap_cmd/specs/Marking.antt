@@ -51,9 +51,9 @@ shown_if false place mark text = None
 abbrev pub shown_of : ℕ → List ℕ → ℕ → ℕ → List ℕ → List ℕ → Option (List ℕ)
 shown_of place mark column done text bytes = shown_if (is_marked place mark column done text bytes) place mark text
 
-abbrev pub shown : ℕ → List ℕ → ℕ → ℕ → Option (List ℕ) → Option (List ℕ)
-shown place mark column done None = None
-shown place mark column done (Some bytes) =
+abbrev pub shown_text : ℕ → List ℕ → ℕ → ℕ → Option (List ℕ) → Option (List ℕ)
+shown_text place mark column done None = None
+shown_text place mark column done (Some bytes) =
     shown_of place mark column done (without_marks place (length mark) 0 (mark_length place (length mark) 0) bytes) bytes
 
 -- no byte of these is a line feed
@@ -66,9 +66,9 @@ with_byte b [] = (b ∷ []) ∷ []
 with_byte b (line ∷ lines) = (b ∷ line) ∷ lines
 
 -- the lines of a text, each with its line feed; after the last feed there may be a line without one
-abbrev pub lines_of : List ℕ → List (List ℕ)
-lines_of [] = []
-lines_of (b ∷ text) = if b == 10 then (b ∷ []) ∷ lines_of text else with_byte b (lines_of text)
+abbrev pub text_lines : List ℕ → List (List ℕ)
+text_lines [] = []
+text_lines (b ∷ text) = if b == 10 then (b ∷ []) ∷ text_lines text else with_byte b (text_lines text)
 
 -- a line with a mark in front of the byte at this place, if it has that byte
 abbrev pub marked_line : ℕ → List ℕ → List ℕ → List ℕ
@@ -76,4 +76,4 @@ marked_line place mark line = if nat_lt place (length line) then take place line
 
 -- a text with the mark in each line
 abbrev pub marked_text : ℕ → List ℕ → List ℕ → List ℕ
-marked_text place mark text = flat_map (marked_line place mark) (lines_of text)
+marked_text place mark text = flat_map (marked_line place mark) (text_lines text)

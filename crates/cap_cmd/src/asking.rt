@@ -3,7 +3,7 @@
 ghost use Rattle.cap_cmd.specs.Asking.{IsAsked, IsInRange, command_name, demands_asked, or_json, plain_task, task_asked, task_under};
 ghost use Rattle.cap_frame.specs.Limit.{limit_of};
 ghost use Rattle.cap_run.specs.Engines.{most_messages};
-ghost use Rattle.cap_vet.specs.Limits.{depth_of, words_of};
+ghost use Rattle.cap_walk.specs.Limits.{depth_of, words_of};
 ghost use Rattle.std.specs.Prelude.{◌≡◌, ◌≢◌, ◌↔◌, IfSome, IsSome, None};
 
 use crate::jobs::{Job, JsonReport, Task, Work};

@@ -1,12 +1,16 @@
 //! The command line: the job that the arguments ask for.
 
 ghost use Rattle.cap_cmd.specs.Asking.{IsAskedJob};
+ghost use Rattle.cap_cmd.specs.Naming.{HasFilesOf, IsOneOrNamed};
+ghost use Rattle.clap.specs.Words.{found_of};
 ghost use Rattle.std.specs.Prelude.{IfOk};
 
 use crate::asking::{Command, Options, command_of, job_of};
 use crate::jobs::{Job, JobFault, Jobs};
+use crate::naming::files_of;
 use crate::sizes::size_words;
 use cap_commands::{DEFAULT_DEPTH, DEFAULT_WORDS, capvet_command};
+use cap_frame::MOST_WORDS;
 use cap_run::{PathFault, Step, parse_path};
 use clap::error::ErrorKind;
 use clap::{ArgMatches, Error};
@@ -74,28 +78,10 @@ fn options_of(options: &ArgMatches<'_>) -> Options {
     }
 }
 
-// The name of the first file of a subcommand, and those of the others.
-fn files_of(
-    alloc: Global,
-    options: &ArgMatches<'_>,
-) -> Result<(Option<String>, Vec<String>), AllocError> {
-    let (mut first, mut others) = (None, Vec::new(alloc));
-    if let Some(names) = options.get_strs("file") {
-        for number in 0..names.len() {
-            let name = String::from_str(alloc, names[number])?;
-            if number == 0 {
-                first = Some(name);
-            } else {
-                others.push(name)?;
-            }
-        }
-    }
-    Ok((first, others))
-}
-
 // The job of a subcommand by its name, and its files.
 fn subcommand_jobs(alloc: Global, name: &str, options: &ArgMatches<'_>) -> Result<Jobs, JobFault>
-    ensures { IfOk result (λ jobs. IsAskedJob jobs.job) }
+    ensures job { IfOk result (λ jobs. IsAskedJob jobs.job) }
+    ensures files { IfOk result (HasFilesOf (found_of options.now)) }
 {
     let Some(command) = command_of(name) else {
         return Err(usage_fault(alloc, "error: a command is needed\n"));
@@ -104,12 +90,12 @@ fn subcommand_jobs(alloc: Global, name: &str, options: &ArgMatches<'_>) -> Resul
         Ok(path) => path,
         Err(fault) => return Err(fault),
     };
-    let (file, more_files) = match files_of(alloc, options) {
+    let (file, named_files) = match files_of(alloc, options) {
         Ok(files) => files,
         Err(_) => return Err(JobFault::Memory),
     };
     match job_of(command, &options_of(options), path, file) {
-        Some(job) => Ok(Jobs { job, more_files }),
+        Some(job) => Ok(Jobs { job, named_files }),
         None => Err(usage_fault(alloc, "error: a limit is out of range\n")),
     }
 }
@@ -131,9 +117,6 @@ fn named(alloc: Global, word: &str) -> Result<Option<String>, AllocError> {
 
 // The options that take a number of words, or a size with a unit.
 const SIZED: [&str; 2] = ["--size", "--words"];
-
-// The most words that they take.
-const MOST_WORDS: u64 = 268435456;
 
 // Whether a text begins as a number and goes on as none.
 fn is_no_number(text: &str) -> bool {
@@ -244,7 +227,10 @@ fn name_options(alloc: Global, words: &mut Vec<String>) -> Result<(), JobFault> 
 }
 
 /// Reads the arguments of the program, its name first. The parser says which command and options
-/// there are, and the job is the one that these ask for. Some commands take several files.
+/// there are, and the job is the one that these ask for.
+///
+/// The files after `--files` are named, and so are several files of a command that takes them as its
+/// arguments. One file without `--files` is that of the job.
 ///
 /// # Errors
 ///
@@ -254,7 +240,8 @@ fn name_options(alloc: Global, words: &mut Vec<String>) -> Result<(), JobFault> 
 ///   path is read here, before any input is opened.
 /// - [`JobFault::Memory`]: an allocation failed, and only then.
 pub fn read_jobs(alloc: Global, mut words: Vec<String>) -> Result<Jobs, JobFault>
-    ensures { IfOk result (λ jobs. IsAskedJob jobs.job) }
+    ensures job { IfOk result (λ jobs. IsAskedJob jobs.job) }
+    ensures files { IfOk result IsOneOrNamed }
 {
     name_options(alloc, &mut words)?;
     let Ok(command) = capvet_command(alloc) else {
@@ -269,11 +256,11 @@ pub fn read_jobs(alloc: Global, mut words: Vec<String>) -> Result<Jobs, JobFault
     }
 }
 
-/// Reads the arguments of the program as [`read_jobs`] does, for at most one file.
+/// Reads the arguments of the program as [`read_jobs`] does, for at most one file, without `--files`.
 ///
 /// # Errors
 ///
-/// Those of [`read_jobs`]. More than one file is a mistake in the arguments.
+/// Those of [`read_jobs`]. Named files are a mistake in the arguments.
 pub fn read_job(alloc: Global, words: Vec<String>) -> Result<Job, JobFault>
     ensures { IfOk result IsAskedJob }
 {
@@ -281,8 +268,8 @@ pub fn read_job(alloc: Global, words: Vec<String>) -> Result<Job, JobFault>
         Ok(jobs) => jobs,
         Err(fault) => return Err(fault),
     };
-    if !jobs.more_files.is_empty() {
-        return Err(usage_fault(alloc, "error: more than one FILE\n"));
+    if !jobs.named_files.is_empty() {
+        return Err(usage_fault(alloc, "error: more than one FILE, or --files\n"));
     }
     Ok(jobs.job)
 }

@@ -124,14 +124,14 @@ pub struct Job {
     pub file: Option<String>,
 }
 
-/// A job over one file or several.
+/// A job over one input, or over files whose names are in its lines.
 #[derive(Debug, Drop)]
 pub struct Jobs {
-    /// The job, over the first file.
+    /// The job. It has no file if there are named ones.
     pub job: Job,
-    /// The names of the other files. The job is done over each of them, one after the other. Only
-    /// work that explains or hashes has any.
-    pub more_files: Vec<String>,
+    /// The names of these files. The job is done over each of them, one after the other. Without any
+    /// it is done once, over its own input.
+    pub named_files: Vec<String>,
 }
 
 /// Why the program's words name no job.

@@ -1,6 +1,6 @@
 //! An output that puts a mark into each line.
 
-ghost use Rattle.cap_cmd.specs.Marking.{IsPiece, next_column, shown};
+ghost use Rattle.cap_cmd.specs.Marking.{IsPiece, next_column, shown_text};
 ghost use Rattle.std.specs.Io.KnownBytes.{Appends, Keeps};
 ghost use Rattle.std.specs.Prelude.{◌+◌, ◌<◌, ◌≡◌, ◌≢◌, ◌≤◌, [], IfOk, IsErrOf, List, OnErr, OnOk, Some, length, take, true, vec_len, ℕ};
 
@@ -104,7 +104,7 @@ impl<O: ByteOut> MarkedLines<O> {
 }
 
 impl<O: ByteOut> ByteOut for MarkedLines<O> {
-    ghost written = { λ s. shown s.place s.mark.items s.column s.done (O.written s.out) };
+    ghost written = { λ s. shown_text s.place s.mark.items s.column s.done (O.written s.out) };
 
     ghost failures = { λ s. O.failures s.out };
 

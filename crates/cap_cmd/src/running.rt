@@ -29,7 +29,7 @@ use cap_words::{
 use std::alloc::Global;
 
 /// The most words that are packed or unpacked.
-const MOST_WORDS: u64 = 1099511627776;
+const MOST_TRANSCODED: u64 = 1099511627776;
 
 /// The exit status if a device or memory failed.
 const FAILED: u8 = 3;
@@ -473,7 +473,7 @@ impl Course {
             pack_text most_packed_at_once source.old out result.1 err.old err.new result.0 }
     {
         let mut sink = Packer::new(out);
-        let answer = run_pack_with(source, &mut sink, MOST_WORDS, &self.flushing);
+        let answer = run_pack_with(source, &mut sink, MOST_TRANSCODED, &self.flushing);
         (report_transcode(err, &answer), sink.into_inner())
     }
 
@@ -488,7 +488,7 @@ impl Course {
             plain_text most_unpacked_at_once source.old out result.1 err.old err.new result.0 }
     {
         let mut sink = PlainSink::new(out);
-        let answer = run_unpack_with(source, &mut sink, MOST_WORDS, &self.flushing);
+        let answer = run_unpack_with(source, &mut sink, MOST_TRANSCODED, &self.flushing);
         (report_transcode(err, &answer), sink.into_inner())
     }
 }

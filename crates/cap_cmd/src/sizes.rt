@@ -1,14 +1,7 @@
 //! Sizes with units, as options take them.
 
-ghost use Rattle.cap_cmd.specs.Sizes.{after_digits, capped, digits_of, is_digit, number_after, size_words, unit_words};
+ghost use Rattle.cap_cmd.specs.Sizes.{after_digits, capped_number, digits_of, number_after, size_words, unit_words};
 ghost use Rattle.std.specs.Prelude.{◌≡◌, ◌≤◌, drop, length, option_map, take};
-
-// Whether a byte is a decimal digit.
-fn is_digit(byte: u8) -> bool
-    ensures { result ≡ is_digit byte }
-{
-    byte > 47 && byte < 58
-}
 
 // How many decimal digits a text begins with.
 fn digit_count(text: &[u8]) -> usize
@@ -18,7 +11,7 @@ fn digit_count(text: &[u8]) -> usize
 {
     let mut count = 0;
     while count < text.len() {
-        if !is_digit(text[count]) {
+        if !text[count].is_ascii_digit() {
             return count;
         }
         count += 1;
@@ -28,7 +21,7 @@ fn digit_count(text: &[u8]) -> usize
 
 // The number of decimal digits, or 2^64 - 1 if it is more.
 fn number(digits: &[u8]) -> u64
-    ensures { result ≡ capped (number_after 0 digits.now) }
+    ensures { result ≡ capped_number (number_after 0 digits.now) }
 {
     let (mut number, mut count): (u64, usize) = (0, 0);
     while count < digits.len() {
@@ -64,7 +57,7 @@ fn unit_words(unit: &[u8]) -> Option<u64>
 /// the text is no such size. A size is a decimal number before one of the units `kB`, `MB`, `GB`,
 /// `KiB`, `MiB` and `GiB`.
 pub(crate) fn size_words(text: &str) -> Option<u64>
-    ensures { result ≡ option_map capped (size_words text.now) }
+    ensures { result ≡ option_map capped_number (size_words text.now) }
 {
     let bytes = text.as_bytes();
     let count = digit_count(bytes);

@@ -56,6 +56,8 @@ const JSON_HELP: &str = "Print a JSON object for each message, one a line";
 const FILES_HELP: &str =
     "File to read instead of standard input; of several, each line has its name";
 
+const NAMED_FILES_HELP: &str = "Files to read; each line has the name of its file";
+
 const ALLOW_NONSTRICT_HELP: &str = "Accept a message in a form that common readers reject";
 
 const ALLOW_AMPLIFIED_HELP: &str = "Accept a charge above the words of the message plus 4096";
@@ -81,6 +83,7 @@ enum Part {
     OneDigest,
     Json,
     Path,
+    NamedFiles,
     File,
     Files,
 }
@@ -111,7 +114,7 @@ static FORMS: [Form; 11] = [
         name: "segments",
         about: "Prints the segments of each message, their sizes in words, and the root pointer",
         notes: SEGMENTS_NOTES,
-        parts: &[Part::Packed, Part::Size, Part::File],
+        parts: &[Part::Packed, Part::Size, Part::NamedFiles, Part::File],
     },
     Form {
         name: "vet",
@@ -127,6 +130,7 @@ static FORMS: [Form; 11] = [
             Part::Exclusive,
             Part::One,
             Part::Json,
+            Part::NamedFiles,
             Part::File,
         ],
     },
@@ -145,6 +149,7 @@ static FORMS: [Form; 11] = [
             Part::Canonical,
             Part::One,
             Part::Json,
+            Part::NamedFiles,
             Part::Files,
         ],
     },
@@ -203,6 +208,7 @@ static FORMS: [Form; 11] = [
             Part::Unamplified,
             Part::One,
             Part::Json,
+            Part::NamedFiles,
             Part::File,
         ],
     },
@@ -225,6 +231,7 @@ static FORMS: [Form; 11] = [
             Part::Unamplified,
             Part::OneDigest,
             Part::Json,
+            Part::NamedFiles,
             Part::Files,
         ],
     },
@@ -298,6 +305,13 @@ fn argument<'a>(alloc: Global, part: Part) -> Result<Arg<'a>, AllocError> {
             .value_name("PATH")
             .help("Path of the node, such as /p0/i3")
             .required(true),
+        Part::NamedFiles => Arg::new(alloc, "files")
+            .long("files")
+            .value_name("FILE")
+            .num_args(1..)
+            .help(NAMED_FILES_HELP)
+            .action(ArgAction::Append)
+            .conflicts_with("file")?,
         Part::File => Arg::new(alloc, "file")
             .value_name("FILE")
             .help("File to read instead of standard input"),

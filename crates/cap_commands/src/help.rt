@@ -10,9 +10,14 @@ segments, followed by the segments in words of 8 bytes. Without FILE a command r
 '-' is the name of a file. With --one a command demands exactly one message.
 
 'capvet explain' says what a refusal means, and what an input looks like that is no such stream:
-gzip, TLS, text or packed. It and 'hash' take many files, and with --json they print an object for
-each message. For CSV, archives, and trees with texts, the package for Python has
-'python -m capvet'.
+gzip, TLS, text or packed. With --files the commands 'segments', 'vet', 'explain', 'check' and
+'hash' read many files, and each line has the name of its file. For CSV, archives, and trees with
+texts, the package for Python has 'python -m capvet'.
+
+With --json 'vet', 'explain', 'check' and 'hash' print an object for each message. It has 'message'
+and 'verdict', and for a refusal 'reason', with 'segment', 'word' and 'pointer' if it names a
+pointer. 'explain' adds 'sentence', 'path' if it names a pointer, and 'cycle_level' for a cycle. An
+input that breaks off has its line on standard error.
 
 Exit status:
   0  every message was accepted, and is canonical for 'check'; or every word was copied;
@@ -63,14 +68,17 @@ Example:
 pub(crate) const EXPLAIN_NOTES: &str = "\
 After the line of 'vet', a refused message has lines that explain the refusal. They begin with the
 path to the pointer, as 'get' takes it, and the byte of the pointer in the message and in the input.
-Then comes the pointer word with its form and its fields, and so does each word of its landing pad.
-The next lines have the words of its target, its tag if it is a list of structs, and the segment
-that the pointer leads into, with its length. Then come what is exceeded, if something is, and the
-reason as a sentence. For Overlap a last line, 'first used by', names the earlier pointer that uses
-the same word, if there is one. If the input breaks off inside a message, or a message is too large,
-standard error has the line of this fault. Lines after it say where the message begins, what its
-table says, and the reason. If the input looks like gzip, TLS, text or a packed stream, a last line
-says so, as a guess. The options are those of 'vet', and --canonical.
+A path of more than 24 steps is shortened in its middle, and whole with --json. Then comes the
+pointer word with its form and its fields, and so does each word of its landing pad. The next lines
+have the words of its target, its tag if it is a list of structs, and the segment that the pointer
+leads into, with its length. Then come what is exceeded, if something is, for DepthLimit whether the
+path returns to the pointer word, which is a cycle, and the reason as a sentence. For Overlap a last
+line, 'first used by', names the earlier pointer that uses the same word, if there is one.
+
+If the input breaks off inside a message, or a message is too large, standard error has the line of
+this fault. Lines after it say where the message begins, what its table says, and the reason. If the
+input looks like gzip, TLS, text or a packed stream, a last line says so, as a guess. The options
+are those of 'vet', and --canonical.
 
 An accepted message that is not strict or is amplified has a line that 'filter', the guard and the
 libraries refuse it, and then the same lines. With --strict and --unamplified, it is refused here.
@@ -115,11 +123,13 @@ pub(crate) const DUMP_NOTES: &str = "\
 After the line of 'vet', an accepted message has the lines of its tree. A node has one line, then
 its own words and its children, two spaces deeper. The steps /pN and /iN of a PATH lead to the
 children pN and iN (see 'capvet help get'). 'capvet explain' says what a refusal means, and which
-other format an input looks like.
+other format an input looks like. The package for Python shows the tree with texts, and as JSON:
+'python -m capvet tree'.
 
 A node 'struct 1 6' has 1 word of data and 6 pointers. A node 'structs 7 1 6' is a list of 7 such
 structs, and 'pointers 3' a list of 3 pointers. A node 'list 2 33' has 33 values of code 2. Values
-of the codes 0 to 5 have 0, 1, 8, 16, 32 and 64 bits.
+of the codes 0 to 5 have 0, 1, 8, 16, 32 and 64 bits. The digits of a word are its 8 bytes in their
+order, so the numbers in it are little-endian.
 
 Example:
   $ capvet dump examples/contacts.bin | head -n 6
@@ -140,7 +150,7 @@ which other format an input looks like.
 
 The command 'capnp compile -ocapnp SCHEMA' prints the place of each field in its struct. There
 ptr[N] is the step '/pN', and bits[A, B) are in the words d0, d1 and so on. See 'capvet help dump'
-for the line of a node.
+for the line of a node. 'python -m capvet tree' of the package for Python also shows texts.
 
 Example:
   $ capvet get /p0/i1 examples/contacts.bin

@@ -6,10 +6,10 @@ use Rattle.cap_spec.proofs.Paths.PathCounts.{caps_counted}
 use Rattle.cap_spec.proofs.ProofNames.{AreDistinct, Costs, Denotes, HasWord, IsCanonical, IsOneOf, List, None}
 use Rattle.cap_spec.proofs.ProofNames.{Option, ReachesCap, Reaches, Some, Tree, [], ap, arith, inl, inr, length}
 use Rattle.cap_spec.proofs.ProofNames.{refl, segment_of, subst, sym, ℕ, ◌+◌, ◌<◌, ◌∷◌, ◌≡◌, ◌≤◌, ◌↔◌}
-use Rattle.cap_vet.specs.Reports.{IsVetted}
-use Rattle.cap_vet.specs.Trails.{Ahead, Falls, IsTrail}
-use Rattle.cap_vet.specs.Walking.{IsLookedAt}
-use Rattle.cap_vet.specs.declared.walk.vetting.Report.{Report}
+use Rattle.cap_walk.specs.Reports.{IsVetted}
+use Rattle.cap_walk.specs.Trails.{Ahead, Falls, IsTrail}
+use Rattle.cap_walk.specs.Walking.{IsLookedAt}
+use Rattle.cap_walk.specs.declared.report.Report.{Report}
 use Rattle.cap_canon.specs.InOrder.{AreDue, Differs, IsAsInCopy, IsInOrder, IsLaidSoFar, IsNotCanonical, MayStartAt}
 use Rattle.cap_canon.specs.Laying.{AreBefore, Due}
 use Rattle.cap_canon.specs.NullsInOrder.{null_in_order}

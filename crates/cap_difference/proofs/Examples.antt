@@ -11,8 +11,8 @@ use Rattle.cap_spec.proofs.ProofNames.{List, [], ap, arith, inl, inr, length, li
 use Rattle.cap_spec.proofs.ProofNames.{◌+ℤ◌, ◌+◌, ◌<◌, ◌∷◌, ◌≡◌, ◌≢◌, ◌≤◌, ◌⊎◌, FindsKind, HasKind, HasWord, IsOneOf, IsTour, Leads}
 use Rattle.cap_spec.proofs.ProofNames.{Reaches, Spot, StepsTo, extent, kind, list_size, segment_of, signed_offset_of, word}
 use Rattle.cap_difference.specs.Differences.{DiffersAt, EndsBefore, FirstDifference}
-use Rattle.cap_difference.specs.Reasons.{IsFirstReason, ObjectDiffers, PointerDiffers, ScalarsDiffers, StructDiffers, StructsDiffers}
-use Rattle.cap_difference.specs.Reasons.{bits_after, empty_list, empty_struct, rank, struct_null, struct_place, struct_zero}
+use Rattle.cap_difference.specs.Reasons.{IsFirstSuchReason, ObjectDiffers, PointerDiffers, ScalarsDiffers, StructDiffers, StructsDiffers}
+use Rattle.cap_difference.specs.Reasons.{bits_after, empty_list, empty_struct, difference_rank, struct_null, struct_place, struct_zero}
 use Rattle.cap_difference.specs.Reasons.{structs_null, structs_place, structs_zero, surplus, values_place}
 use Rattle.cap_difference.specs.Searching.{null_is_same, path_same}
 use Rattle.cap_difference.specs.declared.reason.DifferenceReason.{DifferenceReason}
@@ -42,7 +42,7 @@ module _ (m : List (List ℕ)) (one : length m ≡ 1) (p : ℕ) (has : HasWord m
   root_ends = record { before = []; is_tour = root_tour; words = 0; have = refl; ends = refl }
 
   -- a reason at the root is the first difference
-  at_root : (v : DifferenceReason) → IsFirstReason (PointerDiffers m 0 0 1) v
+  at_root : (v : DifferenceReason) → IsFirstSuchReason (PointerDiffers m 0 0 1) v
       → FirstDifference m record { segment = 0; word = 0; pointers = 1; reason = v; end = 1 }
   at_root v x = inr (inl record {
     one = one;
@@ -72,7 +72,7 @@ module _ (m : List (List ℕ)) (one : length m ≡ 1) (p : ℕ) (has : HasWord m
   -- and so is one of its object, at word b
   at_object : (b tag : ℕ) (what : Kind) (v : DifferenceReason) → kind p < 2 → p ≢ 0 → pos b ≡ pos 1 +ℤ signed_offset_of p
       → b + extent p ≤ length (segment_of m 0) → (IsComposite p → HasWord m 0 b tag × TagFits tag (list_size p)) → HasKind p tag what
-      → IsFirstReason (ObjectDiffers m 1 p 0 b p what) v → FirstDifference m record { segment = 0; word = 0; pointers = 1; reason = v; end = 1 }
+      → IsFirstSuchReason (ObjectDiffers m 1 p 0 b p what) v → FirstDifference m record { segment = 0; word = 0; pointers = 1; reason = v; end = 1 }
   at_object b tag what v k n e inside list shape x =
       let near_word : kind p ≢ 2 = λ z. omega (arith, k, z) in
       let found : FindsKind m 0 0 what 0 0 b p tag = record {
@@ -109,11 +109,11 @@ empty_struct_ahead =
     (λ (a, b). absurd (omega (arith, a))) (is_struct refl refl)
     record { holds = empty_struct refl refl (λ e. absurd (omega (arith, e))); first = λ u lt d. none u lt d }
   where
-    none : (u : DifferenceReason) → rank u < 3 → StructDiffers ((4 ∷ 0 ∷ []) ∷ []) 1 4 0 2 0 0 u → ⊥
-    none u lt (empty_struct e h k) = let r = ap rank e in omega (arith, lt, r)
-    none u lt (struct_place e h k) = let r = ap rank e in omega (arith, lt, r)
-    none u lt (struct_zero e h) = let r = ap rank e in omega (arith, lt, r)
-    none u lt (struct_null e h) = let r = ap rank e in omega (arith, lt, r)
+    none : (u : DifferenceReason) → difference_rank u < 3 → StructDiffers ((4 ∷ 0 ∷ []) ∷ []) 1 4 0 2 0 0 u → ⊥
+    none u lt (empty_struct e h k) = let r = ap difference_rank e in omega (arith, lt, r)
+    none u lt (struct_place e h k) = let r = ap difference_rank e in omega (arith, lt, r)
+    none u lt (struct_zero e h) = let r = ap difference_rank e in omega (arith, lt, r)
+    none u lt (struct_null e h) = let r = ap difference_rank e in omega (arith, lt, r)
 
 -- a struct of one word after a gap of one word
 after_gap : FirstDifference ((0x0000000100000004 ∷ 0 ∷ 7 ∷ []) ∷ []) record { segment = 0; word = 0; pointers = 1; reason = Place; end = 1 }
@@ -122,11 +122,11 @@ after_gap =
     (λ e. absurd (omega (arith, e))) refl (lit≤ tt) (λ (a, b). absurd (omega (arith, a))) (is_struct refl refl)
     record { holds = struct_place refl (λ e. absurd (omega (arith, e))) (λ e. absurd (omega (arith, e))); first = λ u lt d. none u lt d }
   where
-    none : (u : DifferenceReason) → rank u < 4 → StructDiffers ((0x0000000100000004 ∷ 0 ∷ 7 ∷ []) ∷ []) 1 0x0000000100000004 0 2 1 0 u → ⊥
+    none : (u : DifferenceReason) → difference_rank u < 4 → StructDiffers ((0x0000000100000004 ∷ 0 ∷ 7 ∷ []) ∷ []) 1 0x0000000100000004 0 2 1 0 u → ⊥
     none u lt (empty_struct e h k) = omega (arith, h)
-    none u lt (struct_place e h k) = let r = ap rank e in omega (arith, lt, r)
-    none u lt (struct_zero e h) = let r = ap rank e in omega (arith, lt, r)
-    none u lt (struct_null e h) = let r = ap rank e in omega (arith, lt, r)
+    none u lt (struct_place e h k) = let r = ap difference_rank e in omega (arith, lt, r)
+    none u lt (struct_zero e h) = let r = ap difference_rank e in omega (arith, lt, r)
+    none u lt (struct_null e h) = let r = ap difference_rank e in omega (arith, lt, r)
 
 -- a struct of two data words, the last of which is zero
 last_zero : FirstDifference ((0x0000000200000000 ∷ 7 ∷ 0 ∷ []) ∷ []) record { segment = 0; word = 0; pointers = 1; reason = DataZero; end = 1 }
@@ -139,11 +139,11 @@ last_zero =
     zeros zero lt = refl
     zeros (suc k) lt = absurd (omega (arith, lt))
 
-    none : (u : DifferenceReason) → rank u < 8 → StructDiffers ((0x0000000200000000 ∷ 7 ∷ 0 ∷ []) ∷ []) 1 0x0000000200000000 0 1 2 0 u → ⊥
+    none : (u : DifferenceReason) → difference_rank u < 8 → StructDiffers ((0x0000000200000000 ∷ 7 ∷ 0 ∷ []) ∷ []) 1 0x0000000200000000 0 1 2 0 u → ⊥
     none u lt (empty_struct e h k) = omega (arith, h)
     none u lt (struct_place e h k) = k refl
-    none u lt (struct_zero e h) = let r = ap rank e in omega (arith, lt, r)
-    none u lt (struct_null e h) = let r = ap rank e in omega (arith, lt, r)
+    none u lt (struct_zero e h) = let r = ap difference_rank e in omega (arith, lt, r)
+    none u lt (struct_null e h) = let r = ap difference_rank e in omega (arith, lt, r)
 
 -- a struct of one data word and one pointer, which is null
 last_null : FirstDifference ((0x0001000100000000 ∷ 7 ∷ 0 ∷ []) ∷ []) record { segment = 0; word = 0; pointers = 1; reason = PointerNull; end = 1 }
@@ -156,11 +156,11 @@ last_null =
     nulls zero lt = (0, near 0 refl (λ e. absurd (omega (arith, e))) refl refl)
     nulls (suc k) lt = absurd (omega (arith, lt))
 
-    none : (u : DifferenceReason) → rank u < 9 → StructDiffers ((0x0001000100000000 ∷ 7 ∷ 0 ∷ []) ∷ []) 1 0x0001000100000000 0 1 1 1 u → ⊥
+    none : (u : DifferenceReason) → difference_rank u < 9 → StructDiffers ((0x0001000100000000 ∷ 7 ∷ 0 ∷ []) ∷ []) 1 0x0001000100000000 0 1 1 1 u → ⊥
     none u lt (empty_struct e h k) = omega (arith, h)
     none u lt (struct_place e h k) = k refl
     none u lt (struct_zero e h) = let z = h.zeros 0 (lit< tt) in cc
-    none u lt (struct_null e h) = let r = ap rank e in omega (arith, lt, r)
+    none u lt (struct_null e h) = let r = ap difference_rank e in omega (arith, lt, r)
 
 -- a list of one bit, with a second bit set after it
 bit_after : FirstDifference ((0x0000000900000001 ∷ 3 ∷ []) ∷ []) record { segment = 0; word = 0; pointers = 1; reason = Bits; end = 1 }
@@ -172,9 +172,9 @@ bit_after =
       first = λ u lt d. none u lt d;
     }
   where
-    none : (u : DifferenceReason) → rank u < 5 → ScalarsDiffers ((0x0000000900000001 ∷ 3 ∷ []) ∷ []) 1 0 1 1 1 u → ⊥
+    none : (u : DifferenceReason) → difference_rank u < 5 → ScalarsDiffers ((0x0000000900000001 ∷ 3 ∷ []) ∷ []) 1 0 1 1 1 u → ⊥
     none u lt (values_place e h) = h refl
-    none u lt (bits_after e h) = let r = ap rank e in omega (arith, lt, r)
+    none u lt (bits_after e h) = let r = ap difference_rank e in omega (arith, lt, r)
 
 -- a list of no structs, with one data word in its tag
 empty_with_sizes : FirstDifference ((0x0000000700000001 ∷ 0x0000000100000000 ∷ []) ∷ []) record { segment = 0; word = 0; pointers = 1; reason = EmptyList; end = 1 }
@@ -183,12 +183,12 @@ empty_with_sizes =
     (lit< tt) (λ e. absurd (omega (arith, e))) refl (lit≤ tt) (λ _. (refl, (refl, lit≤ tt))) (is_structs refl refl refl)
     record { holds = empty_list refl refl (λ e. absurd (omega (arith, e))); first = λ u lt d. none u lt d }
   where
-    none : (u : DifferenceReason) → rank u < 6 → StructsDiffers ((0x0000000700000001 ∷ 0x0000000100000000 ∷ []) ∷ []) 1 0 1 0 1 0 0 u → ⊥
+    none : (u : DifferenceReason) → difference_rank u < 6 → StructsDiffers ((0x0000000700000001 ∷ 0x0000000100000000 ∷ []) ∷ []) 1 0 1 0 1 0 0 u → ⊥
     none u lt (structs_place e h) = h refl
-    none u lt (empty_list e h k) = let r = ap rank e in omega (arith, lt, r)
-    none u lt (surplus e h) = let r = ap rank e in omega (arith, lt, r)
-    none u lt (structs_zero e h k) = let r = ap rank e in omega (arith, lt, r)
-    none u lt (structs_null e h k) = let r = ap rank e in omega (arith, lt, r)
+    none u lt (empty_list e h k) = let r = ap difference_rank e in omega (arith, lt, r)
+    none u lt (surplus e h) = let r = ap difference_rank e in omega (arith, lt, r)
+    none u lt (structs_zero e h k) = let r = ap difference_rank e in omega (arith, lt, r)
+    none u lt (structs_null e h k) = let r = ap difference_rank e in omega (arith, lt, r)
 
 -- a list of one struct of one word, in two words
 word_left : FirstDifference ((0x0000001700000001 ∷ 0x0000000100000004 ∷ 5 ∷ 0 ∷ []) ∷ []) record { segment = 0; word = 0; pointers = 1; reason = Surplus; end = 1 }
@@ -197,12 +197,12 @@ word_left =
     (lit< tt) (λ e. absurd (omega (arith, e))) refl (lit≤ tt) (λ _. (refl, (refl, lit≤ tt))) (is_structs refl refl refl)
     record { holds = surplus refl (λ e. absurd (omega (arith, e))); first = λ u lt d. none u lt d }
   where
-    none : (u : DifferenceReason) → rank u < 7 → StructsDiffers ((0x0000001700000001 ∷ 0x0000000100000004 ∷ 5 ∷ 0 ∷ []) ∷ []) 1 0 1 1 1 0 2 u → ⊥
+    none : (u : DifferenceReason) → difference_rank u < 7 → StructsDiffers ((0x0000001700000001 ∷ 0x0000000100000004 ∷ 5 ∷ 0 ∷ []) ∷ []) 1 0 1 1 1 0 2 u → ⊥
     none u lt (structs_place e h) = h refl
     none u lt (empty_list e h k) = omega (arith, h)
-    none u lt (surplus e h) = let r = ap rank e in omega (arith, lt, r)
-    none u lt (structs_zero e h k) = let r = ap rank e in omega (arith, lt, r)
-    none u lt (structs_null e h k) = let r = ap rank e in omega (arith, lt, r)
+    none u lt (surplus e h) = let r = ap difference_rank e in omega (arith, lt, r)
+    none u lt (structs_zero e h k) = let r = ap difference_rank e in omega (arith, lt, r)
+    none u lt (structs_null e h k) = let r = ap difference_rank e in omega (arith, lt, r)
 
 -- a list of two structs of one data word each, which are zero
 all_zero : FirstDifference ((0x0000001700000001 ∷ 0x0000000100000008 ∷ 0 ∷ 0 ∷ []) ∷ []) record { segment = 0; word = 0; pointers = 1; reason = DataZero; end = 1 }
@@ -219,12 +219,12 @@ all_zero =
     zeros (suc zero) lt = refl
     zeros (suc (suc k)) lt = absurd (omega (arith, lt))
 
-    none : (u : DifferenceReason) → rank u < 8 → StructsDiffers ((0x0000001700000001 ∷ 0x0000000100000008 ∷ 0 ∷ 0 ∷ []) ∷ []) 1 0 1 2 1 0 2 u → ⊥
+    none : (u : DifferenceReason) → difference_rank u < 8 → StructsDiffers ((0x0000001700000001 ∷ 0x0000000100000008 ∷ 0 ∷ 0 ∷ []) ∷ []) 1 0 1 2 1 0 2 u → ⊥
     none u lt (structs_place e h) = h refl
     none u lt (empty_list e h k) = omega (arith, h)
     none u lt (surplus e h) = h refl
-    none u lt (structs_zero e h k) = let r = ap rank e in omega (arith, lt, r)
-    none u lt (structs_null e h k) = let r = ap rank e in omega (arith, lt, r)
+    none u lt (structs_zero e h k) = let r = ap difference_rank e in omega (arith, lt, r)
+    none u lt (structs_null e h k) = let r = ap difference_rank e in omega (arith, lt, r)
 
 -- The root is null, and a word comes after it.
 word_after : FirstDifference ((0 ∷ 0 ∷ []) ∷ []) record { segment = 0; word = 1; pointers = 1; reason = Trailing; end = 1 }

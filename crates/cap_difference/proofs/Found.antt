@@ -4,13 +4,13 @@ use Rattle.cap_spec.proofs.Lemmas.{Before-irreflexive, one_of_last, one_reached}
 use Rattle.cap_spec.proofs.Paths.Preorder.{Rises-same}
 use Rattle.cap_spec.proofs.ProofNames.{IfSome, List, None, Option, Some, [], ap, arith, inl, inr, length, length-append, refl, subst, sym, ℕ, ◌++◌, ◌+◌, ◌<◌, ◌∷◌}
 use Rattle.cap_spec.proofs.ProofNames.{◌∙◌, ◌≡◌, ◌≤◌, ◌⊎◌, IsOneOf, Before, Reaches, segment_of}
-use Rattle.cap_vet.specs.Reports.{IsVetted}
-use Rattle.cap_vet.specs.Trails.{Ahead, IsTrail}
-use Rattle.cap_vet.specs.Walking.{IsLookedAt}
-use Rattle.cap_vet.specs.declared.walk.vetting.Report.{Report}
+use Rattle.cap_walk.specs.Reports.{IsVetted}
+use Rattle.cap_walk.specs.Trails.{Ahead, IsTrail}
+use Rattle.cap_walk.specs.Walking.{IsLookedAt}
+use Rattle.cap_walk.specs.declared.report.Report.{Report}
 use Rattle.cap_difference.specs.Differences.{DiffersAt, EndsBefore, FirstDifference, HasWordsAfter, HasWordsBelow, HaveWords}
 use Rattle.cap_difference.specs.Differences.{IsAtPointer, IsFirstPointer}
-use Rattle.cap_difference.specs.Reasons.{IsFirstReason, PointerDiffers}
+use Rattle.cap_difference.specs.Reasons.{IsFirstSuchReason, PointerDiffers}
 use Rattle.cap_difference.specs.Searching.{IsSameSoFar, same_on}
 use Rattle.cap_difference.specs.declared.difference.Difference.{Difference}
 use Rattle.cap_difference.specs.declared.reason.DifferenceReason.{DifferenceReason}
@@ -36,7 +36,7 @@ module _ (m : List (List ℕ)) (seen : List (List Step)) (a : Ahead) (s w n cost
   }
 
   -- If its pointer differs, it is the first that does.
-  stops_here : (v : DifferenceReason) → IsFirstReason (PointerDiffers m s w end) v → IsFirstPointer m s w n v
+  stops_here : (v : DifferenceReason) → IsFirstSuchReason (PointerDiffers m s w end) v → IsFirstPointer m s w n v
   stops_here v x =
       let tour = trail_tour m seen a l.later l.trail in
       let many = length-append (preorder seen) (a.path ∷ []) in
@@ -73,7 +73,7 @@ module _ (m : List (List ℕ)) (seen : List (List Step)) (a : Ahead) (s w n cost
       before q b d (inr i) = k.same q (preorder_from q seen i) d
 
   -- That is where the copy ends.
-  pub stops_at : (v : DifferenceReason) → IsFirstReason (PointerDiffers m s w end) v
+  pub stops_at : (v : DifferenceReason) → IsFirstSuchReason (PointerDiffers m s w end) v
       → IsAtPointer m record { segment = s; word = w; pointers = n; reason = v; end = end }
   unfolding stops_here
   stops_at v x = record { one = k.one; first = stops_here v x; end = refl }

@@ -1,4 +1,3 @@
-mod Bits
 mod Rows
 mod ShapeKinds
 mod PointerReasons

@@ -5,7 +5,7 @@ use Rattle.cap_spec.proofs.Paths.Preorder.{Rises-same, one_first, one_number}
 use Rattle.cap_spec.proofs.ProofNames.{List, ap, arith, if◌then◌else◌, inl, inr, refl, rules, subst, sym, ℕ, ◌==◌, ◌∙◌, ◌≡◌}
 use Rattle.cap_spec.proofs.ProofNames.{pointer_count}
 use Rattle.cap_difference.specs.Differences.{DiffersAt, EndsBefore, FirstDifference, HasWordsAfter, HaveWords, IsAtPointer}
-use Rattle.cap_difference.specs.Reasons.{IsFirstReason, PointerDiffers, rank}
+use Rattle.cap_difference.specs.Reasons.{IsFirstSuchReason, PointerDiffers, difference_rank}
 use Rattle.cap_difference.specs.declared.difference.Difference.{Difference}
 use Rattle.cap_difference.specs.declared.reason.DifferenceReason.{DifferenceReason}
 use Rattle.cap_difference.specs.declared.reason.DifferenceReason.TheVariants.{Bits, Capability, DataZero, EmptyList}
@@ -27,7 +27,7 @@ reason_at n =
     (if n == 8 then DataZero else
     (if n == 9 then PointerNull else Trailing)))))))))
 
-rank_back : (u : DifferenceReason) → reason_at (rank u) ≡ u
+rank_back : (u : DifferenceReason) → reason_at (difference_rank u) ≡ u
 rank_back Segments = refl
 rank_back Far = refl
 rank_back Capability = refl
@@ -41,8 +41,8 @@ rank_back PointerNull = refl
 rank_back Trailing = refl
 
 -- one reason is the first
-pub one_first_reason : (P : DifferenceReason → Type 0) (u v : DifferenceReason) → IsFirstReason P u → IsFirstReason P v → u ≡ v
-one_first_reason P u v f g = elim (cases_order (rank u) (rank v)) [
+pub one_first_reason : (P : DifferenceReason → Type 0) (u v : DifferenceReason) → IsFirstSuchReason P u → IsFirstSuchReason P v → u ≡ v
+one_first_reason P u v f g = elim (cases_order (difference_rank u) (difference_rank v)) [
   | inl e ↦ sym (rank_back u) ∙ ap reason_at e ∙ rank_back v
   | inr (inl lt) ↦ absurd (g.first u lt f.holds)
   | inr (inr lt) ↦ absurd (f.first v lt g.holds)
@@ -61,9 +61,9 @@ one_pointer m a b at other =
     f.numbered.reached g.numbered.reached f.first g.first in
     let (x, y, z) = one_number m f.path g.path a.segment a.word a.pointers b.segment b.word b.pointers f.numbered g.numbered e in
     let ends = one_end m g.path f.end g.end (subst (λ p. EndsBefore m p f.end) e f.ends) g.ends in
-    let here = subst (λ n. IsFirstReason (PointerDiffers m b.segment b.word n) a.reason) ends
-    (subst (λ n. IsFirstReason (PointerDiffers m b.segment n f.end) a.reason) y
-    (subst (λ n. IsFirstReason (PointerDiffers m n a.word f.end) a.reason) x f.differs)) in
+    let here = subst (λ n. IsFirstSuchReason (PointerDiffers m b.segment b.word n) a.reason) ends
+    (subst (λ n. IsFirstSuchReason (PointerDiffers m b.segment n f.end) a.reason) y
+    (subst (λ n. IsFirstSuchReason (PointerDiffers m n a.word f.end) a.reason) x f.differs)) in
     same_difference a b x y z (one_first_reason (PointerDiffers m b.segment b.word g.end) a.reason b.reason here g.differs)
     (at.end ∙ ends ∙ sym other.end)
 

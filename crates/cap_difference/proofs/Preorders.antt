@@ -5,7 +5,7 @@ use Rattle.cap_spec.proofs.Paths.Preorder.{Before-longer, cut_tour, middle_is_on
 use Rattle.cap_spec.proofs.ProofNames.{List, [], append-nil, arith, inl, inr, length, length-append, refl, subst, sym, ℕ, ◌++◌}
 use Rattle.cap_spec.proofs.ProofNames.{◌∙◌, ◌∷◌, ◌≡◌, ◌⊎◌, IsOneOf, Before, IsTour, Reaches, Rises}
 use Rattle.cap_spec.proofs.Verdicts.OneFault.{last_is_one}
-use Rattle.cap_vet.specs.Trails.{Ahead, Apart, EachApart, Falls, IsTrail, IsUnder, Precedes}
+use Rattle.cap_walk.specs.Trails.{Ahead, Apart, EachApart, Falls, IsTrail, IsUnder, Precedes}
 
 -- the paths in preorder, where the last one that was looked at comes first in `seen`
 abbrev pub preorder : List (List Step) → List (List Step)

@@ -8,7 +8,7 @@ use Rattle.cap_spec.specs.Paths.{IsFirst, IsNumbered, IsTour, Reaches, Rises}
 use Rattle.cap_spec.specs.Pointers.{extent}
 use Rattle.cap_spec.specs.Tree.{Tree, pointer_count}
 use Rattle.cap_spec.specs.declared.Step.{Step}
-use Rattle.cap_difference.specs.Reasons.{IsFirstReason, PointerDiffers}
+use Rattle.cap_difference.specs.Reasons.{IsFirstSuchReason, PointerDiffers}
 use Rattle.cap_difference.specs.declared.difference.Difference.{Difference}
 use Rattle.cap_difference.specs.declared.reason.DifferenceReason.{DifferenceReason}
 use Rattle.cap_difference.specs.declared.reason.DifferenceReason.TheVariants.{Segments, Trailing}
@@ -54,7 +54,7 @@ pub record IsFirstPointer (m : List (List ℕ)) (s w number : ℕ) (reason : Dif
   pub numbered : IsNumbered m path s w number
   pub end : ℕ
   pub ends : EndsBefore m path end
-  pub differs : IsFirstReason (PointerDiffers m s w end) reason
+  pub differs : IsFirstSuchReason (PointerDiffers m s w end) reason
   pub first : IsFirst (DiffersAt m) path
 
 -- All pointers are as a copy has them, and words of segment 0 come after their objects, from word `end` on. The message has this

@@ -13,28 +13,28 @@ use Rattle.cap_difference.specs.declared.reason.DifferenceReason.TheVariants.{Em
 use Rattle.cap_difference.specs.declared.reason.DifferenceReason.TheVariants.{Segments, Surplus, Trailing}
 
 -- the order in which the reasons are tried
-abbrev pub rank : DifferenceReason → ℕ
-rank Segments = 0
-rank Far = 1
-rank Capability = 2
-rank EmptyStruct = 3
-rank Place = 4
-rank Bits = 5
-rank EmptyList = 6
-rank Surplus = 7
-rank DataZero = 8
-rank PointerNull = 9
-rank Trailing = 10
+abbrev pub difference_rank : DifferenceReason → ℕ
+difference_rank Segments = 0
+difference_rank Far = 1
+difference_rank Capability = 2
+difference_rank EmptyStruct = 3
+difference_rank Place = 4
+difference_rank Bits = 5
+difference_rank EmptyList = 6
+difference_rank Surplus = 7
+difference_rank DataZero = 8
+difference_rank PointerNull = 9
+difference_rank Trailing = 10
 
 -- P holds of this reason, and of none before it.
-pub record IsFirstReason (P : DifferenceReason → Type 0) (reason : DifferenceReason) : Type 0 where
+pub record IsFirstSuchReason (P : DifferenceReason → Type 0) (reason : DifferenceReason) : Type 0 where
   pub holds : P reason
-  pub first : (other : DifferenceReason) → rank other < rank reason → ¬ P other
+  pub first : (other : DifferenceReason) → difference_rank other < difference_rank reason → ¬ P other
 
 -- this is the first reason of which P holds, or there is none
 abbrev pub Decides : (DifferenceReason → Type 0) → Option DifferenceReason → Type 0
 Decides P None = (reason : DifferenceReason) → ¬ P reason
-Decides P (Some reason) = IsFirstReason P reason
+Decides P (Some reason) = IsFirstSuchReason P reason
 
 -- the word at s:w denotes null, over a landing pad or without one
 abbrev pub IsNullAt : List (List ℕ) → ℕ → ℕ → Type 0

@@ -1,18 +1,18 @@
 //! The first difference between an accepted message and its canonical copy.
 
+ghost use Rattle.cap_canon.specs.InOrder.{IsNotCanonical};
 ghost use Rattle.cap_difference.specs.Differences.{FirstDifference};
+ghost use Rattle.cap_difference.specs.Searching.{IsSearched, null_searched};
 ghost use Rattle.cap_difference.specs.declared.difference.Difference.{Difference};
 ghost use Rattle.cap_spec.specs.Copies.{IsCanonical};
-ghost use Rattle.cap_spec.specs.GreatestLimits.{most_depth, most_words};
 ghost use Rattle.cap_spec.specs.Messages.{segment_of};
-ghost use Rattle.cap_vet.specs.Limits.{depth_of, words_of};
 ghost use Rattle.cap_vet.specs.Vettings.{message_of};
 ghost use Rattle.std.specs.Prelude.{◌<◌, ◌↔◌, ◌≡◌, ◌≤◌, IfNone, IfSome, None, Some, length};
 
+use crate::pointers::next_end;
 use crate::reason::DifferenceReason;
-use crate::search::DifferenceSearch;
 use cap_frame::Segments;
-use cap_vet::{Limits, Stopped, Vetted, vet_with_turn};
+use cap_vet::{FirstTurn, Limits, Place, Stopped, Turn, Vetted, vet_with_turn};
 
 /// Where a message differs from its canonical copy first, and why.
 #[derive(Clone, Copy, Debug, PartialEq, Eq, Drop)]
@@ -50,19 +50,12 @@ pub fn first_difference<M: Segments>(v: &Vetted<'_, M>) -> Option<Difference>
 {
     let message = v.message();
     let report = v.report();
-    match vet_with_turn::<M, DifferenceSearch>(message, greatest()) {
+    match vet_with_turn::<M, DifferenceSearch>(message, Limits::greatest()) {
         Ok((_, search)) => trailing(message, search.end, report.pointers),
         Err(Stopped::ByTurn(difference)) => Some(difference),
         // The message is accepted.
         Err(Stopped::Refused(_)) => unreachable!(),
     }
-}
-
-// The limits that each accepted message is within.
-fn greatest() -> Limits
-    ensures { (words_of result ≡ most_words) × (depth_of result ≡ most_depth) }
-{
-    Limits::new(268_435_456, 256).unwrap()
 }
 
 // Whether words come after the last object of a message of one segment: a copy ends at word `end`.
@@ -83,4 +76,65 @@ fn trailing<M: Segments>(message: &M, end: u64, pointers: u64) -> Option<Differe
         reason: DifferenceReason::Trailing,
         end,
     })
+}
+
+/// A walk through a message that has been as its canonical copy so far. It stops at the first pointer
+/// that isn't.
+#[derive(Drop)]
+struct DifferenceSearch {
+    /// Where a copy has the next object.
+    end: u64,
+}
+
+impl Turn for DifferenceSearch {
+    type Stop = Difference;
+
+    ghost knows = { λ search m seen. IsSearched m search.end seen };
+
+    ghost stops = { λ m difference. FirstDifference m difference × IsNotCanonical m };
+
+    #[inline(always)]
+    fn after<M: Segments>(
+        &mut self,
+        message: &M,
+        s: u32,
+        w: u32,
+        _object: Place,
+        _may_be_lax: bool,
+        pointers: u64,
+        _cost: u64,
+    ) -> Result<(), Difference> {
+        match next_end(message, s, w, self.end) {
+            Ok(end) => {
+                self.end = end;
+                Ok(())
+            }
+            Err(reason) => Err(Difference {
+                segment: s,
+                word: w,
+                pointers,
+                reason,
+                end: self.end,
+            }),
+        }
+    }
+
+    ghost passes = { λ search m seen p level s w reached zero known.
+        null_searched m search.end seen p level s w reached zero known };
+}
+
+impl FirstTurn for DifferenceSearch {
+    #[inline(always)]
+    fn begin<M: Segments>(message: &M) -> Result<DifferenceSearch, Difference> {
+        if message.count() != 1 {
+            return Err(Difference {
+                segment: 0,
+                word: 0,
+                pointers: 0,
+                reason: DifferenceReason::Segments,
+                end: 1,
+            });
+        }
+        Ok(DifferenceSearch { end: 1 })
+    }
 }

@@ -1,7 +1,7 @@
 //! Whether structs, alone or in a list, end in zeros or in null pointers.
 
 ghost use Rattle.cap_difference.specs.Reasons.{EndInNulls, EndInZeros};
-ghost use Rattle.cap_spec.specs.Messages.{HasWord, segment_of};
+ghost use Rattle.cap_spec.specs.Messages.{segment_of};
 ghost use Rattle.std.specs.Prelude.{◌+◌, ◌*◌, ◌<◌, ◌≤◌, ◌↔◌, IsTrue, length};
 
 use crate::nulls::is_null;

@@ -2,7 +2,7 @@
 
 ghost use Rattle.cap_canon.specs.InOrder.{Differs, IsAsInCopy, MayStartAt};
 ghost use Rattle.cap_difference.specs.Differences.{HasWordsBelow};
-ghost use Rattle.cap_difference.specs.Reasons.{IsFirstReason, PointerDiffers};
+ghost use Rattle.cap_difference.specs.Reasons.{IsFirstSuchReason, PointerDiffers};
 ghost use Rattle.cap_difference.specs.declared.reason.DifferenceReason.{DifferenceReason};
 ghost use Rattle.cap_spec.specs.Messages.{segment_of};
 ghost use Rattle.cap_spec.specs.Paths.{Costs};
@@ -34,7 +34,7 @@ pub(crate) fn next_end<M: Segments>(
         IfOk result (λ now. (n : ℕ) × HasWordsBelow m s w n × (now ≡ end + n)) }
     ensures same { let m = M.segments message.now in
         IfOk result (λ _. (reason : DifferenceReason) → ¬ PointerDiffers m s w end reason) }
-    ensures differs { IfErr result (IsFirstReason (PointerDiffers (M.segments message.now) s w end)) }
+    ensures differs { IfErr result (IsFirstSuchReason (PointerDiffers (M.segments message.now) s w end)) }
 
     // The same of a copy's words, in segment 0.
     ensures copied { let m = M.segments message.now in

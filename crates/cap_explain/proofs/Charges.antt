@@ -15,9 +15,9 @@ use Rattle.cap_spec.proofs.Verdicts.OneVerdict.{distinct_cost}
 use Rattle.std.specs.Prelude.{IfNone}
 use Rattle.cap_spec.specs.declared.StrictRefusal.{StrictRefusal}
 use Rattle.cap_spec.specs.declared.StrictRefusal.TheVariants.{Refused}
-use Rattle.cap_vet.specs.ChargeUpTo.{IsChargeUpTo}
-use Rattle.cap_vet.specs.Demands.{IsDemandFault, words_under}
-use Rattle.cap_vet.specs.declared.demands.Demands.{Demands}
+use Rattle.cap_walk.specs.ChargeUpTo.{IsChargeUpTo}
+use Rattle.cap_walk.specs.Demands.{IsDemandFault, words_under}
+use Rattle.cap_walk.specs.declared.demands.Demands.{Demands}
 use Rattle.cap_explain.specs.Charges.{ChargeOf, fault_charge, reason_charge, refusal_charge}
 
 module _ (m : List (List ℕ)) (words depth : ℕ) where

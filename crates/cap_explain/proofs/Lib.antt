@@ -1,7 +1,8 @@
 pub mod Appends
 pub mod Charges
-pub mod Hexes
+pub mod Cycles
 pub mod Places
 pub mod Reasons
 pub mod RowSteps
 pub mod Targets
+pub mod FaultLines

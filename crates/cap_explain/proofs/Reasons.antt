@@ -20,10 +20,11 @@ use Rattle.cap_spec.specs.declared.Reason.TheVariants.{NoRoot}
 use Rattle.cap_spec.specs.declared.StrictRefusal.{StrictRefusal}
 use Rattle.cap_spec.specs.declared.StrictRefusal.TheVariants.{ManySegments as many, Pointer as not_strict}
 use Rattle.cap_spec.specs.declared.StrictRefusal.TheVariants.{Refused as refused}
-use Rattle.cap_vet.specs.Demands.{IsDemandFault, words_under}
-use Rattle.cap_vet.specs.declared.demands.Demands.{Demands}
+use Rattle.cap_walk.specs.Demands.{IsDemandFault, words_under}
+use Rattle.cap_walk.specs.declared.demands.Demands.{Demands}
+use Rattle.cap_ptr.specs.Shapes.{is_structs}
 use Rattle.cap_explain.specs.Explaining.{lines_at, lines_of, refusal_lines}
-use Rattle.cap_explain.specs.Leading.{is_structs, landing_of, word_of}
+use Rattle.cap_explain.specs.Leading.{landing_of, word_of}
 use Rattle.cap_explain.specs.Meanings.{HasTrueReason, IsTrue, begins_before, capability_pad, composite_overrun}
 use Rattle.cap_explain.specs.Meanings.{composite_tag, deep_structs, deep_target, empty_segment, many_segments, no_root}
 use Rattle.cap_explain.specs.Meanings.{null_pad, overlaps, pad_is_far, pad_names_missing, pad_not_far, pad_outside}

@@ -8,7 +8,7 @@ use Rattle.cap_spec.proofs.ProofNames.{two, two_pads, Says, Lead, same_Some, fal
 use Rattle.cap_spec.specs.Following.{IsTag}
 use Rattle.std.proofs.Common.{eqb, ◌-ℤ◌, ◌-◌}
 use Rattle.cap_explain.specs.FormTexts.{excess}
-use Rattle.cap_explain.specs.Leading.{landing_of, segment_after, tag_of, target_after, target_of, target_over}
+use Rattle.cap_explain.specs.Leading.{landing_of, segment_after, list_tag, target_after, target_of, target_over}
 use Rattle.cap_explain.specs.Leading.{word_of}
 use Rattle.cap_explain.specs.Meanings.{Shows, begin_of, target_at}
 use Rattle.cap_explain.specs.declared.landing.Landing.{Landing}
@@ -228,7 +228,7 @@ leads_of m s w p landing h (lands_two f r both hf hr e) t b q x =
     )
 
 -- the tag that is shown
-pub tag_shown : (m : List (List ℕ)) (x : Target) (tag : ℕ) → tag_of m x ≡ Some tag
+pub tag_shown : (m : List (List ℕ)) (x : Target) (tag : ℕ) → list_tag m x ≡ Some tag
     → IsComposite x.word × (b : ℕ) × (begin_of x ≡ pos b) × HasWord m x.segment b tag
 tag_shown m x tag h =
     elim (eqb_tells (kind x.word) 1) [
@@ -243,7 +243,7 @@ tag_shown m x tag h =
     ]
 
 pub tag_there : (m : List (List ℕ)) (x : Target) (tag b : ℕ) → IsComposite x.word → begin_of x ≡ pos b → HasWord m x.segment b tag
-    → tag_of m x ≡ Some tag
+    → list_tag m x ≡ Some tag
 tag_there m x tag b list begin h =
     let after : x.excess ≤ x.start = omega (arith, ints, begin) in
     let same : x.start - x.excess ≡ b = omega (arith, ints, begin) in

@@ -6,9 +6,9 @@ use Rattle.cap_spec.specs.declared.Reason.{Reason}
 use Rattle.cap_spec.specs.declared.Refusal.{Refusal}
 use Rattle.cap_spec.specs.declared.StrictRefusal.{StrictRefusal}
 use Rattle.cap_spec.specs.declared.StrictRefusal.TheVariants.{ManySegments, Pointer, Refused}
-use Rattle.cap_vet.specs.ChargeUpTo.{IsChargeUpTo}
-use Rattle.cap_vet.specs.Demands.{IsDemandFault, words_under}
-use Rattle.cap_vet.specs.declared.demands.Demands.{Demands}
+use Rattle.cap_walk.specs.ChargeUpTo.{IsChargeUpTo}
+use Rattle.cap_walk.specs.Demands.{IsDemandFault, words_under}
+use Rattle.cap_walk.specs.declared.demands.Demands.{Demands}
 
 -- what was charged before the pointer, and what the pointer costs, if that is past the word limit
 abbrev pub reason_charge : (m : List (List ℕ)) (words depth before s w level : ℕ) (v : Reason)

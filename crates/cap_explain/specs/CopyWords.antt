@@ -10,8 +10,8 @@ use Rattle.cap_difference.specs.Reasons.{last_bits}
 use Rattle.cap_difference.specs.declared.difference.Difference.{Difference}
 use Rattle.cap_difference.specs.declared.reason.DifferenceReason.{DifferenceReason}
 use Rattle.cap_difference.specs.declared.reason.DifferenceReason.TheVariants as reason
-use Rattle.cap_explain.specs.FormTexts.{place_text}
-use Rattle.cap_explain.specs.Leading.{landing_of, tag_of, target_of, word_of}
+use Rattle.cap_explain.specs.FormTexts.{segment_word_text}
+use Rattle.cap_explain.specs.Leading.{landing_of, list_tag, target_of, word_of}
 use Rattle.cap_explain.specs.declared.copied.Copied.{Copied}
 use Rattle.cap_explain.specs.declared.copied.Copied.TheVariants.{NoCopy, Nothing, Word}
 use Rattle.cap_explain.specs.declared.copied.DifferingWord.{DifferingWord}
@@ -26,13 +26,13 @@ is_null_pad (One word) = word == 0
 is_null_pad _ = false
 
 -- a pointer word that denotes null
-abbrev pub is_null : List (List ℕ) → ℕ → Bool
-is_null m p = if p == 0 then true else is_null_pad (landing_of m p)
+abbrev pub is_null_pointer : List (List ℕ) → ℕ → Bool
+is_null_pointer m p = if p == 0 then true else is_null_pad (landing_of m p)
 
 -- a word that a copy may leave out at the end of its section: zero, or a pointer that denotes null
 abbrev pub is_empty : List (List ℕ) → Bool → Option ℕ → Bool
 is_empty m as_pointer None = false
-is_empty m as_pointer (Some x) = if as_pointer then is_null m x else x == 0
+is_empty m as_pointer (Some x) = if as_pointer then is_null_pointer m x else x == 0
 
 -- the first words of n structs of `each` words are all so, from t:w on
 abbrev pub are_empty : List (List ℕ) → Bool → ℕ → ℕ → ℕ → ℕ → Bool
@@ -74,7 +74,7 @@ row_of m t =
       count = 1;
       data_words = data_size t.word;
       pointers = pointer_size t.word;
-    }) else elements t (tag_of m t)
+    }) else elements t (list_tag m t)
 
 -- a copy's pointer to a struct of these sizes
 abbrev pub copied_struct : ℕ → ℕ → ℕ → ℕ
@@ -93,7 +93,7 @@ copied_object m offset q (Some row) = copied_row m offset q row
 
 -- what a copy has for the pointer word p with this target, if that begins `offset` words after it
 abbrev pub copied_pointer : List (List ℕ) → ℕ → ℕ → Option Target → Copied
-copied_pointer m offset p None = if is_null m p then Word 0 else NoCopy
+copied_pointer m offset p None = if is_null_pointer m p then Word 0 else NoCopy
 copied_pointer m offset p (Some t) = Word (copied_object m offset t.word (row_of m t))
 
 -- that pointer word, with the copy's object where the difference has the end of the copy
@@ -154,7 +154,7 @@ copied_text NoCopy = codes ", there is no copy"
 
 -- a word of the message, and what a copy has in its place
 abbrev pub word_line : DifferingWord → ℕ → List ℕ
-word_line d x = codes "  word " ++ (place_text d.segment d.word ++ 32 ∷ (hex x ++ (copied_text d.copied ++ 10 ∷ [])))
+word_line d x = codes "  word " ++ (segment_word_text d.segment d.word ++ 32 ∷ (hex x ++ (copied_text d.copied ++ 10 ∷ [])))
 
 -- the same, if the message has that word
 abbrev pub differing_line : DifferingWord → Option ℕ → List ℕ

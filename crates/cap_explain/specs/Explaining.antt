@@ -1,8 +1,10 @@
 -- The lines that explain a refusal (profile).
-use Rattle.std.specs.Prelude.{Bool, List, None, Option, Some, [], codes, decimal, if◌then◌else◌, length, min, nat_lt, true, ℕ, ◌*◌, ◌++◌}
+use Rattle.std.specs.List.{flat_map}
+use Rattle.std.specs.Prelude.{Bool, List, None, Option, Some, [], codes, decimal, drop, if◌then◌else◌, length, min, nat_lt, take, true}
+use Rattle.std.specs.Prelude.{ℕ, ◌*◌, ◌++◌}
 use Rattle.std.specs.Prelude.{◌+◌, ◌-◌, ◌==◌, ◌^◌, ◌∷◌}
 use Rattle.cap_spec.specs.Messages.{segment_of}
-use Rattle.cap_spec.specs.PathTexts.{path_text}
+use Rattle.cap_spec.specs.PathTexts.{path_text, step_text}
 use Rattle.cap_spec.specs.Pointers.{data_size, extent, far_segment, list_size, middle, pad, pointer_size}
 use Rattle.cap_spec.specs.Texts.{hex}
 use Rattle.cap_spec.specs.declared.Reason.TheVariants.{CompositeOverrun, DepthLimit, WordLimit}
@@ -10,10 +12,11 @@ use Rattle.cap_spec.specs.declared.Step.{Step}
 use Rattle.cap_spec.specs.declared.StrictRefusal.{StrictRefusal}
 use Rattle.cap_spec.specs.declared.StrictRefusal.TheVariants.{ManySegments as many, Pointer as not_strict}
 use Rattle.cap_spec.specs.declared.StrictRefusal.TheVariants.{Refused as refused}
+use Rattle.cap_ptr.specs.Shapes.{is_structs}
 use Rattle.cap_difference.specs.declared.difference.Difference.{Difference}
 use Rattle.cap_explain.specs.CopyWords.{copy_lines}
-use Rattle.cap_explain.specs.FormTexts.{difference_text, form_text, place_text, tag_text}
-use Rattle.cap_explain.specs.Leading.{byte_of, is_structs, landing_of, segment_after, tag_of, target_of, word_of}
+use Rattle.cap_explain.specs.FormTexts.{signed_difference, form_text, segment_word_text, tag_text}
+use Rattle.cap_explain.specs.Leading.{first_byte_of, landing_of, segment_after, list_tag, target_of, word_of}
 use Rattle.cap_explain.specs.Sentences.{names_pointer, sentence}
 use Rattle.cap_explain.specs.declared.landing.Landing.{Landing}
 use Rattle.cap_explain.specs.declared.landing.Landing.TheVariants.{Missing, Near, One, Outside, Two}
@@ -35,8 +38,8 @@ input_text (Some start) byte =
 
 -- where the pointer word is
 abbrev pub byte_line : List (List ℕ) → Numbers → ℕ → ℕ → List ℕ
-byte_line m k s w = (codes "  byte " ++ decimal (byte_of k.has_table m s w))
-    ++ (codes " of the message" ++ (input_text k.start (byte_of k.has_table m s w) ++ 10 ∷ []))
+byte_line m k s w = (codes "  byte " ++ decimal (first_byte_of k.has_table m s w))
+    ++ (codes " of the message" ++ (input_text k.start (first_byte_of k.has_table m s w) ++ 10 ∷ []))
 
 -- a word, and its form with the fields
 abbrev pub word_text : ℕ → List ℕ
@@ -47,7 +50,7 @@ pointer_line p = codes "  pointer " ++ word_text p
 
 -- a word of a landing pad
 abbrev pub pad_line : ℕ → ℕ → ℕ → List ℕ
-pad_line s w p = codes "  pad " ++ place_text s w ++ 32 ∷ word_text p
+pad_line s w p = codes "  pad " ++ segment_word_text s w ++ 32 ∷ word_text p
 
 -- the words of the landing pad of the pointer p
 abbrev pub landing_lines : ℕ → Landing → List ℕ
@@ -60,7 +63,7 @@ landing_lines p (Two far tag) =
 
 -- the place of a word of the target
 abbrev pub target_place : Target → ℕ → List ℕ
-target_place t w = decimal t.segment ++ 58 ∷ difference_text w t.excess
+target_place t w = decimal t.segment ++ 58 ∷ signed_difference w t.excess
 
 -- from its first word to its last one
 abbrev pub target_range : Target → List ℕ
@@ -88,7 +91,7 @@ tag_line t (Some tag) = codes "  tag " ++ target_place t t.start ++ 32 ∷ tag_w
 
 abbrev pub target_lines : List (List ℕ) → Option Target → List ℕ
 target_lines m None = []
-target_lines m (Some t) = target_line t ++ tag_line t (tag_of m t)
+target_lines m (Some t) = target_line t ++ tag_line t (list_tag m t)
 
 -- how many words a segment has, or that it doesn't exist, and which do
 abbrev pub segment_state : List (List ℕ) → ℕ → List ℕ
@@ -136,7 +139,7 @@ tagged_line p (Some tag) = elements_line p tag
 -- the same of the list at a target
 abbrev pub overrun_line : List (List ℕ) → Option Target → List ℕ
 overrun_line m None = []
-overrun_line m (Some t) = tagged_line t.word (tag_of m t)
+overrun_line m (Some t) = tagged_line t.word (list_tag m t)
 
 -- what is exceeded: a limit, or the words of a list of structs
 abbrev pub excess_line : List (List ℕ) → Fault → Option Target → Numbers → List ℕ
@@ -144,6 +147,16 @@ excess_line m (Refused CompositeOverrun) target k = overrun_line m target
 excess_line m (Refused DepthLimit) target k = level_line k.depth
 excess_line m (Refused WordLimit) target k = charge_line k.charge k.words
 excess_line m _ target k = []
+
+-- the path was at this pointer word before, at this level: the pointers since then are a cycle
+abbrev pub cycle_line : ℕ → List ℕ
+cycle_line level =
+    (codes "  cycle: the path returns to this pointer word, which it reached at level " ++ decimal level) ++ 10 ∷ []
+
+-- the same, if there is such a level
+abbrev pub cycle_lines : Option ℕ → List ℕ
+cycle_lines None = []
+cycle_lines (Some level) = cycle_line level
 
 -- the reason as a sentence
 abbrev pub reason_line : Fault → Landing → Option Target → List ℕ
@@ -155,7 +168,7 @@ abbrev pub lines_over : List (List ℕ) → Fault → ℕ → ℕ → Numbers �
     → List ℕ
 lines_over m fault s w k p landing target =
     (if names_pointer fault then pointer_lines m k s w p landing target else [])
-    ++ excess_line m fault target k ++ reason_line fault landing target
+    ++ excess_line m fault target k ++ cycle_lines k.cycle ++ reason_line fault landing target
 
 -- the lines by the word that is named, if it exists
 abbrev pub lines_at : List (List ℕ) → Fault → ℕ → ℕ → Numbers → Option ℕ → List ℕ
@@ -167,8 +180,17 @@ lines_at m fault s w k (Some p) =
 abbrev pub lines_of : List (List ℕ) → Fault → ℕ → ℕ → Numbers → List ℕ
 lines_of m fault s w k = lines_at m fault s w k (word_of m s w)
 
+-- a long path: its first 8 steps, how many are left out, and its last 8
+abbrev pub shortened : List Step → List ℕ
+shortened steps = flat_map step_text (take 8 steps) ++ ((codes "/.. " ++ decimal (length steps - 16))
+    ++ (codes " steps .." ++ flat_map step_text (drop (length steps - 8) steps)))
+
+-- a path, shortened if it has more than 24 steps
+abbrev pub shown_path : List Step → List ℕ
+shown_path steps = if nat_lt 24 (length steps) then shortened steps else path_text steps
+
 abbrev pub path_line : List Step → List ℕ
-path_line steps = codes "  path " ++ path_text steps ++ 10 ∷ []
+path_line steps = codes "  path " ++ shown_path steps ++ 10 ∷ []
 
 -- the line of the path to a pointer, if the path isn't too long for one
 abbrev pub path_explanation : List Step → List ℕ
@@ -182,7 +204,7 @@ path_lines (Some steps) = path_explanation steps
 -- the line of the first pointer that uses a word which the pointer of an overlap uses too
 abbrev pub earlier_line : List Step → ℕ → ℕ → List ℕ
 earlier_line steps s w =
-    codes "  first used by " ++ (path_text steps ++ (codes " at " ++ (place_text s w ++ 10 ∷ [])))
+    codes "  first used by " ++ (shown_path steps ++ (codes " at " ++ (segment_word_text s w ++ 10 ∷ [])))
 
 -- the same, if there is a path that isn't too long for a line
 abbrev pub earlier_explanation : Option (List Step) → ℕ → ℕ → List ℕ
@@ -201,7 +223,7 @@ explanation path m refusal k = path_lines path ++ refusal_lines m refusal k
 
 -- of an overlap or a difference there are no limits: whether the message has a segment table, and where it begins
 abbrev pub overlap_numbers : Bool → Option MessageStart → Numbers
-overlap_numbers has_table start = record { words = 0; depth = 0; charge = None; has_table = has_table; start = start }
+overlap_numbers has_table start = record { words = 0; depth = 0; charge = None; cycle = None; has_table = has_table; start = start }
 
 -- the lines that explain that a pointer overlaps, of a message that has a segment table or not
 abbrev pub overlap_lines : Bool → Option (List Step) → List (List ℕ) → Option MessageStart → ℕ → ℕ → List ℕ

@@ -4,19 +4,19 @@ use Rattle.cap_spec.specs.Pointers.{cap_index, code, data_size, far_segment, kin
 use Rattle.cap_spec.specs.Pointers.{two}
 
 -- a segment and a word
-abbrev pub place_text : ℕ → ℕ → List ℕ
-place_text s w = decimal s ++ 58 ∷ decimal w
+abbrev pub segment_word_text : ℕ → ℕ → List ℕ
+segment_word_text s w = decimal s ++ 58 ∷ decimal w
 
 -- the difference of two numbers, with its sign
-abbrev pub difference_text : ℕ → ℕ → List ℕ
-difference_text a b = if nat_lt a b then 45 ∷ decimal (b - a) else decimal (a - b)
+abbrev pub signed_difference : ℕ → ℕ → List ℕ
+signed_difference a b = if nat_lt a b then 45 ∷ decimal (b - a) else decimal (a - b)
 
 -- what the 30 bits of an offset, read without a sign, are too large by
 abbrev pub excess : ℕ → ℕ
 excess bits = if nat_lt bits (2 ^ 29) then 0 else 2 ^ 30
 
 abbrev pub offset_text : ℕ → List ℕ
-offset_text p = codes ", offset " ++ difference_text (middle p) (excess (middle p))
+offset_text p = codes ", offset " ++ signed_difference (middle p) (excess (middle p))
 
 abbrev pub sizes_text : ℕ → List ℕ
 sizes_text p =
@@ -41,7 +41,7 @@ abbrev pub list_text : ℕ → List ℕ
 list_text p = elements_name (code p) ++ offset_text p ++ size_name (code p) ++ decimal (list_size p)
 
 abbrev pub far_text : ℕ → List ℕ
-far_text p = codes "far pointer to " ++ place_text (far_segment p) (pad p) ++ codes ", pad words "
+far_text p = codes "far pointer to " ++ segment_word_text (far_segment p) (pad p) ++ codes ", pad words "
     ++ decimal (two p + 1)
 
 abbrev pub other_text : ℕ → List ℕ

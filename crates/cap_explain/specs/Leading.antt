@@ -4,8 +4,9 @@ use Rattle.std.specs.Prelude.{Bool, List, None, Option, Some, false, if◌then�
 use Rattle.std.specs.Prelude.{◌+◌, ◌-◌, ◌/◌, ◌==◌}
 use Rattle.cap_spec.specs.Frames.{sizes_of}
 use Rattle.cap_spec.specs.Messages.{segment_of}
-use Rattle.cap_spec.specs.Pointers.{code, far_segment, kind, middle, pad, two}
-use Rattle.cap_vet.specs.Taken.{start_of}
+use Rattle.cap_spec.specs.Pointers.{far_segment, kind, middle, pad, two}
+use Rattle.cap_frame.specs.SegmentStarts.{start_of}
+use Rattle.cap_ptr.specs.Shapes.{is_structs}
 use Rattle.cap_explain.specs.FormTexts.{excess}
 use Rattle.cap_explain.specs.declared.landing.Landing.{Landing}
 use Rattle.cap_explain.specs.declared.landing.Landing.TheVariants.{Missing, Near, One, Outside, Two}
@@ -16,12 +17,12 @@ abbrev pub word_of : List (List ℕ) → ℕ → ℕ → Option ℕ
 word_of m s w = slice_get (segment_of m s) w
 
 -- the words of the segment table of a message, or none if the message has no table
-abbrev pub table_words : Bool → List (List ℕ) → ℕ
-table_words has_table m = if has_table then length m / 2 + 1 else 0
+abbrev pub message_table_words : Bool → List (List ℕ) → ℕ
+message_table_words has_table m = if has_table then length m / 2 + 1 else 0
 
 -- the first byte of that word in the message, its segment table included if it has one
-abbrev pub byte_of : Bool → List (List ℕ) → ℕ → ℕ → ℕ
-byte_of has_table m s w = 8 * (table_words has_table m + start_of m s + w)
+abbrev pub first_byte_of : Bool → List (List ℕ) → ℕ → ℕ → ℕ
+first_byte_of has_table m s w = 8 * (message_table_words has_table m + start_of m s + w)
 
 -- the words of the frame of a message: its segment table, and the words of its segments
 abbrev pub frame_words : List (List ℕ) → ℕ
@@ -88,12 +89,8 @@ segment_after s p Outside = far_segment p
 segment_after s p (One word) = far_segment p
 segment_after s p (Two far tag) = if is_short_far far then far_segment far else far_segment p
 
--- a word is a pointer to a list of structs
-abbrev pub is_structs : ℕ → Bool
-is_structs p = if kind p == 1 then code p == 7 else false
-
 -- the tag of a list of structs, if its target begins inside its segment
-abbrev pub tag_of : List (List ℕ) → Target → Option ℕ
-tag_of m t =
+abbrev pub list_tag : List (List ℕ) → Target → Option ℕ
+list_tag m t =
     if is_structs t.word then
     (if nat_lt t.start t.excess then None else word_of m t.segment (t.start - t.excess)) else None

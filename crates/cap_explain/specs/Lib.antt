@@ -1,6 +1,8 @@
 pub mod Charges
 pub mod CopyWords
+pub mod Cycles
 pub mod Explaining
+pub mod FaultLines
 pub mod FormTexts
 pub mod Leading
 pub mod Meanings

@@ -8,7 +8,7 @@ use Rattle.cap_spec.specs.declared.Reason.TheVariants.{PadIsFar, PadNotFar, PadO
 use Rattle.cap_spec.specs.declared.Reason.TheVariants.{TagKind, TagOffset, WordLimit}
 use Rattle.cap_difference.specs.declared.reason.DifferenceReason.{DifferenceReason}
 use Rattle.cap_difference.specs.declared.reason.DifferenceReason.TheVariants as reason
-use Rattle.cap_explain.specs.Leading.{is_structs}
+use Rattle.cap_ptr.specs.Shapes.{is_structs}
 use Rattle.cap_explain.specs.declared.landing.Landing.{Landing}
 use Rattle.cap_explain.specs.declared.landing.Landing.TheVariants.{One, Two}
 use Rattle.cap_explain.specs.declared.sentences.Fault.{Fault}

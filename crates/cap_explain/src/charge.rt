@@ -2,16 +2,16 @@
 
 ghost use Rattle.cap_explain.specs.Charges.{ChargeOf, HasChargeUpTo};
 ghost use Rattle.cap_spec.specs.Faults.{IsRefused};
-ghost use Rattle.cap_vet.specs.Limits.{depth_of, words_of};
+ghost use Rattle.cap_walk.specs.Limits.{depth_of, words_of};
 
 use cap_frame::Segments;
 use cap_spec::{Reason, Refusal, StrictRefusal};
-use cap_vet::{Limits, charge_up_to};
+use cap_walk::{Limits, charge_up_to};
 
 /// The charge up to the pointer that this refusal of a message within limits names, with that
 /// pointer and its target, if the word limit is passed there. `None` if another reason applies. It
 /// walks only for the word limit. Allocates nothing.
-pub fn refusal_charge<M: Segments>(
+pub(crate) fn refusal_charge<M: Segments>(
     message: &M,
     refusal: &StrictRefusal,
     limits: Limits,

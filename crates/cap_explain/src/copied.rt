@@ -4,12 +4,12 @@ ghost use Rattle.cap_explain.specs.CopyWords.{copied_object, copied_pointer, cop
 ghost use Rattle.cap_spec.specs.Canonical.{list_word};
 ghost use Rattle.std.specs.Prelude.{◌^◌, ◌<◌, ◌≡◌, ◌≤◌, IfSome};
 
-use crate::rows::{Row, data_left, is_null, pointers_left, row_of};
-use crate::target::{Target, extent};
+use crate::rows::{Row, data_left, is_null_pointer, pointers_left, row_of};
+use crate::target::Target;
 use crate::words::word_of;
 use cap_difference::{Difference, DifferenceReason};
 use cap_frame::Segments;
-use cap_ptr::{code, element_bits, kind, list_size};
+use cap_ptr::{code, element_bits, extent, kind, list_size};
 
 /// What a copy has in the place of a word.
 #[derive(Clone, Copy, Drop)]
@@ -97,7 +97,7 @@ fn copied_pointer<M: Segments>(
             Copied::Word(copied_object(message, offset, target.word, row))
         }
         None => {
-            if is_null(message, word) {
+            if is_null_pointer(message, word) {
                 Copied::Word(0)
             } else {
                 Copied::NoCopy
@@ -131,7 +131,7 @@ fn differing_values<M: Segments>(message: &M, target: &Target) -> Option<Differi
     ensures { result ≡ differing_values (M.segments message.now) target.now }
 {
     let start = target.start.saturating_sub(u64::from(target.excess));
-    let word = (start + extent(target.word)).saturating_sub(1);
+    let word = (start + u64::from(extent(target.word))).saturating_sub(1);
     match word_of(message, target.segment, word) {
         Some(last) => {
             let count = u64::from(list_size(target.word));

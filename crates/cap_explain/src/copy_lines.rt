@@ -1,12 +1,11 @@
 //! The line of what a canonical copy has at the first difference.
 
-ghost use Rattle.cap_explain.specs.CopyWords.{copied_text, copy_lines, differing_line, differing_lines, pointed_lines, segments_line, word_line, words_line};
-ghost use Rattle.cap_explain.specs.FormTexts.{place_text};
+ghost use Rattle.cap_explain.specs.CopyWords.{copied_text, copy_lines, differing_lines, pointed_lines, segments_line, word_line, words_line};
 ghost use Rattle.cap_explain.specs.Leading.{word_of};
-ghost use Rattle.std.specs.Prelude.{◌+◌, ◌*◌, ◌++◌, ◌≡◌, ◌≤◌, length};
+ghost use Rattle.std.specs.Prelude.{◌+◌, ◌++◌, ◌≡◌, ◌≤◌, length};
 
 use crate::copied::{Copied, DifferingWord, differing_word};
-use crate::explanation::{CAPACITY, DIGITS, Explanation};
+use crate::explanation::{CAPACITY, Explanation};
 use crate::landing::landing_of;
 use crate::lines::PLAIN;
 use crate::target::target_of;
@@ -30,24 +29,13 @@ fn push_copied(text: &mut Explanation, copied: Copied)
     }
 }
 
-/// Appends the place of a word.
-fn push_word_place(text: &mut Explanation, segment: u32, word: u64)
-    requires { length text.old + 2 * DIGITS + 1 ≤ CAPACITY }
-    ensures items { text.new ≡ text.old ++ place_text segment word }
-    ensures few { length text.new ≤ length text.old + 2 * DIGITS + 1 }
-{
-    text.push_number(u64::from(segment));
-    text.push_text(b":");
-    text.push_number(word);
-}
-
 /// Appends the line of a word, with what a copy has in its place.
 fn push_word_line(text: &mut Explanation, differing: DifferingWord, value: u64)
     requires { length text.old + PLAIN ≤ CAPACITY }
     ensures { text.new ≡ text.old ++ word_line differing value }
 {
     text.push_text(b"  word ");
-    push_word_place(text, differing.segment, differing.word);
+    text.push_place(differing.segment, differing.word);
     text.push_text(b" ");
     text.push_hex(value);
     push_copied(text, differing.copied);

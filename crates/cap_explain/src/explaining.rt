@@ -8,8 +8,8 @@ use crate::copy_lines::push_copy_lines;
 use crate::explanation::{CAPACITY, Explanation};
 use crate::landing::{Landing, landing_of};
 use crate::lines::{
-    LINE, PLAIN, push_byte_line, push_excess_line, push_landing_lines, push_pointer_line,
-    push_reason_line, push_segment_line, push_target_lines,
+    LINE, PLAIN, push_byte_line, push_cycle_lines, push_excess_line, push_landing_lines,
+    push_pointer_line, push_reason_line, push_segment_line, push_target_lines,
 };
 use crate::numbers::{MessageStart, Numbers};
 use crate::path::push_path_lines;
@@ -66,20 +66,21 @@ fn push_lines<M: Segments>(
 )
     requires exists { pointer.segment < length (M.segments message.now) }
     requires near { IfSome target.now (λ t. t.start < 2 ^ 34) }
-    requires fits { length text.old + POINTER + 2 * PLAIN ≤ CAPACITY }
+    requires fits { length text.old + POINTER + 3 * PLAIN ≤ CAPACITY }
     ensures items { let p = pointer in text.new ≡ text.old ++ lines_over
         (M.segments message.now) fault p.segment p.word numbers p.value p.landing target.now }
-    ensures few { length text.new ≤ length text.old + POINTER + 2 * PLAIN }
+    ensures few { length text.new ≤ length text.old + POINTER + 3 * PLAIN }
 {
     if names_pointer(fault) {
         push_pointer_lines(text, message, numbers, pointer, target);
     }
     push_excess_line(text, message, fault, target, numbers);
+    push_cycle_lines(text, numbers.cycle);
     push_reason_line(text, fault, pointer.landing, target);
 }
 
 /// The space for all lines on a fault but that of the path.
-const LINES: usize = POINTER + 2 * PLAIN;
+const LINES: usize = POINTER + 3 * PLAIN;
 
 /// Appends the lines of a fault that names a word.
 fn push_fault<M: Segments>(
@@ -113,8 +114,8 @@ fn push_fault<M: Segments>(
 
 /// Writes the lines that explain why a message is refused (docs/output.md, explain). They give the
 /// path to the pointer, where it is, and the pointer word with its fields. Then come where it leads,
-/// what is exceeded, and the reason as a sentence. What the text held before is removed. Allocates
-/// nothing.
+/// what is exceeded, whether the path returns to the pointer word, and the reason as a sentence. A
+/// path of more than 24 steps is shortened. What the text held before is removed. Allocates nothing.
 ///
 /// A refusal that names no word of the message has only the line of the reason, and that of a path
 /// if one is given. A path of more than 257 steps has no line: no path to a pointer of a refusal has
@@ -169,6 +170,7 @@ fn push_overlap<M: Segments>(
         words: 0,
         depth: 0,
         charge: None,
+        cycle: None,
         has_table,
         start,
     };
@@ -227,6 +229,7 @@ pub fn explain_difference<M: Segments>(
         words: 0,
         depth: 0,
         charge: None,
+        cycle: None,
         has_table: true,
         start,
     };

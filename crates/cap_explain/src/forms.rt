@@ -1,9 +1,10 @@
 //! The texts of pointer words, by their forms and fields.
 
-ghost use Rattle.cap_explain.specs.FormTexts.{elements_name, excess, far_text, form_text, list_text, offset_text, other_text, size_name, sizes_text, tag_text};
+ghost use Rattle.cap_explain.specs.FormTexts.{signed_difference, elements_name, excess, far_text, form_text, list_text, offset_text, other_text, size_name, sizes_text, tag_text};
 ghost use Rattle.std.specs.Prelude.{◌+◌, ◌++◌, ◌≡◌, ◌≤◌, codes, length};
 
 use crate::explanation::{CAPACITY, Explanation};
+use cap_buffer::DIGITS;
 use cap_ptr::{
     cap_index, code, data_size, far_segment, kind, list_size, middle, pad, pointer_size, two,
 };
@@ -30,6 +31,20 @@ pub(crate) fn excess(bits: u32) -> u32
     if bits < 1 << 29 { 0 } else { 1 << 30 }
 }
 
+/// Appends the difference of two numbers, with its sign.
+pub(crate) fn push_difference(text: &mut Explanation, a: u64, b: u64)
+    requires { length text.old + 1 + DIGITS ≤ CAPACITY }
+    ensures items { text.new ≡ text.old ++ signed_difference a b }
+    ensures few { length text.new ≤ length text.old + 1 + DIGITS }
+{
+    if a < b {
+        text.push_text(b"-");
+        text.push_number(b - a);
+    } else {
+        text.push_number(a - b);
+    }
+}
+
 /// Appends the offset of a struct or list pointer.
 fn push_offset(text: &mut Explanation, word: u64)
     requires { length text.old + OFFSET ≤ CAPACITY }
@@ -38,7 +53,7 @@ fn push_offset(text: &mut Explanation, word: u64)
 {
     text.push_text(b", offset ");
     let bits = middle(word);
-    text.push_difference(bits as u64, excess(bits) as u64);
+    push_difference(text, bits as u64, excess(bits) as u64);
 }
 
 /// Appends the sizes of a struct.
@@ -99,7 +114,7 @@ fn push_far(text: &mut Explanation, word: u64)
     ensures few { length text.new ≤ length text.old + FORM }
 {
     text.push_text(b"far pointer to ");
-    text.push_place(far_segment(word), pad(word));
+    text.push_place(far_segment(word), pad(word) as u64);
     text.push_named(b", pad words ", two(word) as u64 + 1);
 }
 

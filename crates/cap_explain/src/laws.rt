@@ -1,7 +1,7 @@
 //! What the lines say of a message: the target is where the pointer leads, and the reason is true.
 
 ghost use Rattle.cap_explain.specs.Explaining.{explanation, overlap_explanation};
-ghost use Rattle.cap_explain.specs.Leading.{landing_of, segment_after, tag_of};
+ghost use Rattle.cap_explain.specs.Leading.{landing_of, segment_after, list_tag};
 ghost use Rattle.cap_explain.specs.Meanings.{HasTrueReason, Shows, begin_of, segment_named, target_at, word_named};
 ghost use Rattle.cap_explain.specs.declared.numbers.MessageStart.{MessageStart};
 ghost use Rattle.cap_explain.specs.declared.numbers.Numbers.{Numbers};
@@ -11,8 +11,8 @@ ghost use Rattle.cap_spec.specs.Messages.{HasWord};
 ghost use Rattle.cap_spec.specs.Occupying.{IsFirstOverlap};
 ghost use Rattle.cap_spec.specs.declared.Step.{Step};
 ghost use Rattle.cap_spec.specs.declared.StrictRefusal.{StrictRefusal};
-ghost use Rattle.cap_vet.specs.Demands.{IsDemandFault, words_under};
-ghost use Rattle.cap_vet.specs.declared.demands.Demands.{Demands};
+ghost use Rattle.cap_walk.specs.Demands.{IsDemandFault, words_under};
+ghost use Rattle.cap_walk.specs.declared.demands.Demands.{Demands};
 ghost use Rattle.std.specs.Prelude.{◌≡◌, ◌↔◌, List, Option, Some, pos, ℕ, ℤ};
 
 /// The target that the lines show is the object that the pointer leads to, and there is no such line
@@ -25,7 +25,7 @@ pub fn target_is_where_the_pointer_leads()
         Shows (target_at m s w p) t b q → (k : ℕ) × Leads m s w k (to_object t b q) }
     ensures segment { (m : List (List ℕ)) (s w p t : ℕ) (b : ℤ) (q : ℕ) → HasWord m s w p →
         Shows (target_at m s w p) t b q → segment_after s p (landing_of m p) ≡ t }
-    ensures tag { (m : List (List ℕ)) (t : Target) (tag : ℕ) → tag_of m t ≡ Some tag ↔
+    ensures tag { (m : List (List ℕ)) (t : Target) (tag : ℕ) → list_tag m t ≡ Some tag ↔
         (IsComposite t.word × (b : ℕ) × (begin_of t ≡ pos b) × HasWord m t.segment b tag) }
 {}
 

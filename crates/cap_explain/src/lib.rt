@@ -5,6 +5,7 @@
 mod charge;
 mod copied;
 mod copy_lines;
+mod cycle;
 mod earlier;
 mod explaining;
 mod explanation;
@@ -19,11 +20,11 @@ mod sentences;
 mod target;
 mod words;
 
-pub use charge::refusal_charge;
+pub use cycle::cycle_level;
 pub use earlier::explain_earlier;
 pub use explaining::{explain, explain_difference, explain_overlap, explain_overlap_alone};
 pub use explanation::Explanation;
 pub use laws::{reason_is_true, target_is_where_the_pointer_leads};
-pub use numbers::{MessageStart, Numbers};
+pub use numbers::{MessageStart, Numbers, numbers_of};
 pub use sentences::difference_sentence;
 pub use words::frame_words;

@@ -1,17 +1,18 @@
 //! The lines of an explanation.
 
-ghost use Rattle.cap_explain.specs.Explaining.{byte_line, charge_line, elements_line, excess_line, of_unpacked_input, input_text, target_line, target_lines, target_place, target_range, landing_lines, level_line, overrun_line, pad_line, pointer_line, reason_line, segment_line, segment_state, tag_line, tag_note, tag_word, word_text};
+ghost use Rattle.cap_explain.specs.Explaining.{byte_line, charge_line, cycle_line, cycle_lines, elements_line, excess_line, of_unpacked_input, input_text, target_line, target_lines, target_place, target_range, landing_lines, level_line, overrun_line, pad_line, pointer_line, reason_line, segment_line, segment_state, tag_line, tag_note, tag_word, word_text};
 ghost use Rattle.std.specs.Prelude.{◌+◌, ◌*◌, ◌++◌, ◌^◌, ◌<◌, ◌≡◌, ◌≤◌, IfSome, None, Some, length};
 
-use crate::explanation::{CAPACITY, DIGITS, Explanation};
-use crate::forms::{FORM, TAG, push_form, push_tag};
+use crate::explanation::{CAPACITY, Explanation};
+use crate::forms::{FORM, TAG, push_difference, push_form, push_tag};
 use crate::landing::Landing;
 use crate::numbers::{MessageStart, Numbers};
 use crate::sentences::{Fault, SENTENCE, sentence};
-use crate::target::{Target, extent, is_structs, needed, tag_of};
-use crate::words::byte_of;
+use crate::target::{Target, list_tag};
+use crate::words::first_byte_of;
+use cap_buffer::DIGITS;
 use cap_frame::Segments;
-use cap_ptr::{far_segment, list_size, pad};
+use cap_ptr::{extent, far_segment, is_structs, list_size, pad, words_of_elements};
 use cap_spec::Reason;
 
 /// The space for one line without the form of a word.
@@ -60,7 +61,7 @@ pub(crate) fn push_byte_line<M: Segments>(
     ensures items { text.new ≡ text.old ++ byte_line (M.segments message.now) numbers segment word }
     ensures few { length text.new ≤ length text.old + LINE }
 {
-    let byte = byte_of(message, numbers.has_table, segment, word);
+    let byte = first_byte_of(message, numbers.has_table, segment, word);
     text.push_named(b"  byte ", byte);
     text.push_text(b" of the message");
     push_input_place(text, numbers.start, byte);
@@ -96,7 +97,7 @@ fn push_pad_line(text: &mut Explanation, segment: u32, place: u32, word: u64)
     ensures few { length text.new ≤ length text.old + LINE }
 {
     text.push_text(b"  pad ");
-    text.push_place(segment, place);
+    text.push_place(segment, place as u64);
     text.push_text(b" ");
     push_word(text, word);
 }
@@ -127,7 +128,7 @@ fn push_target_place(text: &mut Explanation, target: &Target, word: u64)
 {
     text.push_number(u64::from(target.segment));
     text.push_text(b":");
-    text.push_difference(word, u64::from(target.excess));
+    push_difference(text, word, u64::from(target.excess));
 }
 
 /// Appends the first and the last word of the target.
@@ -138,7 +139,7 @@ fn push_target_range(text: &mut Explanation, target: &Target)
     ensures few { length text.new ≤ length text.old + 4 * DIGITS + 8 }
 {
     push_target_place(text, target, target.start);
-    let words = extent(target.word);
+    let words = u64::from(extent(target.word));
     if words > 0 {
         text.push_text(b" to ");
         push_target_place(text, target, target.start + words - 1);
@@ -166,7 +167,7 @@ fn push_target_line(text: &mut Explanation, target: &Target)
 {
     text.push_text(b"  target ");
     push_target_range(text, target);
-    text.push_named(b", words ", extent(target.word));
+    text.push_named(b", words ", u64::from(extent(target.word)));
     text.push_text(tag_note(target.word));
     text.push_text(b"\n");
 }
@@ -211,7 +212,7 @@ pub(crate) fn push_target_lines<M: Segments>(
 {
     if let Some(target) = target {
         push_target_line(text, target);
-        push_tag_line(text, target, tag_of(message, target));
+        push_tag_line(text, target, list_tag(message, target));
     }
 }
 
@@ -292,7 +293,7 @@ fn push_elements_line(text: &mut Explanation, word: u64, tag: u64)
     ensures items { text.new ≡ text.old ++ elements_line word tag }
     ensures few { length text.new ≤ length text.old + PLAIN }
 {
-    text.push_named(b"  elements need words ", needed(tag));
+    text.push_named(b"  elements need words ", words_of_elements(tag));
     text.push_named(b", list has words ", u64::from(list_size(word)));
     text.push_text(b"\n");
 }
@@ -304,7 +305,7 @@ fn push_overrun_line<M: Segments>(text: &mut Explanation, message: &M, target: &
     ensures few { length text.new ≤ length text.old + PLAIN }
 {
     if let Some(target) = target {
-        if let Some(tag) = tag_of(message, target) {
+        if let Some(tag) = list_tag(message, target) {
             push_elements_line(text, target.word, tag);
         }
     }
@@ -328,6 +329,30 @@ pub(crate) fn push_excess_line<M: Segments>(
         Fault::Refused(Reason::DepthLimit) => push_level_line(text, numbers.depth),
         Fault::Refused(Reason::WordLimit) => push_charge_line(text, numbers.charge, numbers.words),
         _ => {}
+    }
+}
+
+/// Appends that the path returns to the pointer word, which it reached at this level.
+fn push_cycle_line(text: &mut Explanation, level: u32)
+    requires { length text.old + PLAIN ≤ CAPACITY }
+    ensures items { text.new ≡ text.old ++ cycle_line level }
+    ensures few { length text.new ≤ length text.old + PLAIN }
+{
+    text.push_named(
+        b"  cycle: the path returns to this pointer word, which it reached at level ",
+        u64::from(level),
+    );
+    text.push_text(b"\n");
+}
+
+/// Appends the same, if it does.
+pub(crate) fn push_cycle_lines(text: &mut Explanation, level: Option<u32>)
+    requires { length text.old + PLAIN ≤ CAPACITY }
+    ensures items { text.new ≡ text.old ++ cycle_lines level }
+    ensures few { length text.new ≤ length text.old + PLAIN }
+{
+    if let Some(level) = level {
+        push_cycle_line(text, level);
     }
 }
 

@@ -1,5 +1,14 @@
 //! The numbers that an explanation names beside those of the message.
 
+ghost use Rattle.cap_explain.specs.Charges.{ChargeOf};
+ghost use Rattle.cap_walk.specs.Limits.{depth_of, words_of};
+ghost use Rattle.std.specs.Prelude.{◌≡◌};
+
+use crate::charge::refusal_charge;
+use cap_frame::Segments;
+use cap_spec::StrictRefusal;
+use cap_walk::Limits;
+
 /// Where in an input a message begins.
 #[derive(Clone, Copy, Debug, PartialEq, Eq, Drop)]
 pub struct MessageStart {
@@ -9,8 +18,8 @@ pub struct MessageStart {
     pub packed: bool,
 }
 
-/// The limits under which a message is refused, its charge up to the pointer that is named, and where
-/// it begins.
+/// What an explanation says beside the message. It has the limits, the charge up to the refused
+/// pointer, and the level of a cycle. It also has where the message begins.
 #[derive(Clone, Copy, Debug, PartialEq, Eq, Drop)]
 pub struct Numbers {
     /// The limit of the charge, in words.
@@ -19,8 +28,41 @@ pub struct Numbers {
     pub depth: u32,
     /// The charge up to the pointer that is named, with its target, if the word limit is passed there.
     pub charge: Option<u64>,
+    /// The level of a cycle: at it the path to the refused pointer was at that word before. `None` if
+    /// it wasn't, or if the reason isn't the depth limit.
+    pub cycle: Option<u32>,
     /// Whether the message has a segment table, which comes before its segments.
     pub has_table: bool,
     /// Where the message begins, if it is one of a stream.
     pub start: Option<MessageStart>,
+}
+
+/// The numbers of a message that is refused within limits, with this level of a cycle. Walks
+/// only for the word limit. Allocates nothing.
+// The walk keeps its runs on the stack: a caller's frame isn't to have them while it writes.
+#[inline(never)]
+pub fn numbers_of<M: Segments>(
+    message: &M,
+    refusal: &StrictRefusal,
+    cycle: Option<u32>,
+    limits: Limits,
+    has_table: bool,
+    start: Option<MessageStart>,
+) -> Numbers
+    ensures words { result.words ≡ words_of limits }
+    ensures depth { result.depth ≡ depth_of limits }
+    ensures charge { ChargeOf (M.segments message.now) (words_of limits) (depth_of limits) refusal.now
+        result.charge }
+    ensures cycle { result.cycle ≡ cycle }
+    ensures table { result.has_table ≡ has_table }
+    ensures start { result.start ≡ start }
+{
+    Numbers {
+        words: limits.words(),
+        depth: limits.depth(),
+        charge: refusal_charge(message, refusal, limits),
+        cycle,
+        has_table,
+        start,
+    }
 }

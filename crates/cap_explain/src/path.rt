@@ -1,19 +1,18 @@
 //! The line of a path.
 
-ghost use Rattle.cap_explain.specs.Explaining.{path_line, path_lines};
-ghost use Rattle.cap_spec.specs.PathTexts.{path_text, step_text};
-ghost use Rattle.std.specs.List.{flat_map};
+ghost use Rattle.cap_explain.specs.Explaining.{path_line, path_lines, shortened, shown_path};
 ghost use Rattle.std.specs.Option.{option_map};
-ghost use Rattle.std.specs.Prelude.{◌+◌, ◌*◌, ◌++◌, ◌≡◌, ◌≤◌, length};
+ghost use Rattle.std.specs.Prelude.{◌+◌, ◌*◌, ◌++◌, ◌<◌, ◌≡◌, ◌≤◌, length};
 
-use crate::explanation::{CAPACITY, DIGITS, Explanation, FEW_DIGITS};
+use crate::explanation::{CAPACITY, Explanation};
+use cap_buffer::{DIGITS, STEP, STEPS};
 use cap_spec::Step;
 
-/// The most steps of a path that has a line.
-pub(crate) const STEPS: usize = 257;
+/// The most steps of a path that is shown whole.
+const WHOLE: usize = 24;
 
-/// The space for the text of one step.
-const STEP: usize = FEW_DIGITS + 2;
+/// How many steps of a longer path are shown at each end.
+const ENDS: usize = 8;
 
 /// The space for the line of a path without its steps.
 const HEAD: usize = 10;
@@ -21,39 +20,30 @@ const HEAD: usize = 10;
 /// The space for the line of a path.
 pub(crate) const PATH: usize = HEAD + STEP * STEPS;
 
-/// Appends the text of a step.
-fn push_step(text: &mut Explanation, step: Step)
-    requires { length text.old + DIGITS + 2 ≤ CAPACITY }
-    ensures items { text.new ≡ text.old ++ step_text step }
-    ensures few { length text.new ≤ length text.old + STEP }
-{
-    match step {
-        Step::Ptr(index) => text.push_named(b"/p", u64::from(index)),
-        Step::Item(index) => text.push_named(b"/i", u64::from(index)),
-    }
-}
-
-/// Appends the texts of steps.
-fn push_steps(text: &mut Explanation, steps: &[Step])
-    requires { length text.old + STEP * length steps.now + DIGITS ≤ CAPACITY }
-    ensures items { text.new ≡ text.old ++ flat_map step_text steps.now }
+/// Appends the text of a long path: its first and last steps, and how many are between.
+fn push_shortened(text: &mut Explanation, steps: &[Step])
+    requires many { WHOLE < length steps.now }
+    requires fits { length text.old + STEP * length steps.now + DIGITS ≤ CAPACITY }
+    ensures items { text.new ≡ text.old ++ shortened steps.now }
     ensures few { length text.new ≤ length text.old + STEP * length steps.now }
 {
-    for step in steps {
-        push_step(text, *step);
-    }
+    let rest = steps.len() - ENDS;
+    text.push_steps(&steps[..ENDS]);
+    text.push_named(b"/.. ", (rest - ENDS) as u64);
+    text.push_text(b" steps ..");
+    text.push_steps(&steps[rest..]);
 }
 
-/// Appends the text of a path.
-pub(crate) fn push_path(text: &mut Explanation, steps: &[Step])
+/// Appends the text of a path, shortened if it has more than 24 steps.
+pub(crate) fn push_shown_path(text: &mut Explanation, steps: &[Step])
     requires { length text.old + 1 + STEP * length steps.now + DIGITS ≤ CAPACITY }
-    ensures items { text.new ≡ text.old ++ path_text steps.now }
+    ensures items { text.new ≡ text.old ++ shown_path steps.now }
     ensures few { length text.new ≤ length text.old + 1 + STEP * length steps.now }
 {
-    if steps.is_empty() {
-        text.push_text(b"/");
+    if steps.len() > WHOLE {
+        push_shortened(text, steps);
     } else {
-        push_steps(text, steps);
+        text.push_path(steps);
     }
 }
 
@@ -65,7 +55,7 @@ fn push_path_line(text: &mut Explanation, steps: &[Step])
     ensures few { length text.new ≤ length text.old + PATH }
 {
     text.push_text(b"  path ");
-    push_path(text, steps);
+    push_shown_path(text, steps);
     text.push_text(b"\n");
 }
 

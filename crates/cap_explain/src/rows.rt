@@ -1,11 +1,11 @@
 //! How much of structs, alone or in a list, a canonical copy has.
 
-ghost use Rattle.cap_explain.specs.CopyWords.{are_empty, data_left, elements, is_empty, is_null, pointers_left, row_of, words_left};
+ghost use Rattle.cap_explain.specs.CopyWords.{are_empty, data_left, elements, is_empty, is_null_pointer, pointers_left, row_of, words_left};
 ghost use Rattle.cap_explain.specs.Leading.{word_of};
 ghost use Rattle.std.specs.Prelude.{◌+◌, ◌*◌, ◌^◌, ◌<◌, ◌≡◌, ◌≤◌, IfSome};
 
 use crate::landing::{Landing, landing_of};
-use crate::target::{Target, tag_of};
+use crate::target::{Target, list_tag};
 use crate::words::word_of;
 use cap_frame::Segments;
 use cap_ptr::{data_size, kind, middle, pointer_size};
@@ -24,8 +24,8 @@ pub(crate) struct Row {
 
 /// A pointer word denotes null: it is zero, or the landing pad that it leads to is (encoding:
 /// Inter-Segment Pointers).
-pub(crate) fn is_null<M: Segments>(message: &M, word: u64) -> bool
-    ensures { result ≡ is_null (M.segments message.now) word }
+pub(crate) fn is_null_pointer<M: Segments>(message: &M, word: u64) -> bool
+    ensures { result ≡ is_null_pointer (M.segments message.now) word }
 {
     if word == 0 {
         return true;
@@ -43,7 +43,7 @@ fn is_empty<M: Segments>(message: &M, as_pointer: bool, word: Option<u64>) -> bo
     match word {
         Some(word) => {
             if as_pointer {
-                is_null(message, word)
+                is_null_pointer(message, word)
             } else {
                 word == 0
             }
@@ -138,7 +138,7 @@ pub(crate) fn row_of<M: Segments>(message: &M, target: &Target) -> Option<Row>
     ensures near { IfSome result (λ row. row.first ≤ 2 ^ 34) }
 {
     if kind(target.word) != 0 {
-        return elements(target, tag_of(message, target));
+        return elements(target, list_tag(message, target));
     }
     Some(Row {
         segment: target.segment,

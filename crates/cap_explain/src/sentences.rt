@@ -4,8 +4,9 @@ ghost use Rattle.cap_explain.specs.Sentences.{deep_sentence, difference_sentence
 ghost use Rattle.std.specs.Prelude.{◌≡◌, ◌≤◌, length};
 
 use crate::landing::Landing;
-use crate::target::{Target, is_structs};
+use crate::target::Target;
 use cap_difference::DifferenceReason;
+use cap_ptr::is_structs;
 use cap_spec::{Lax, Reason};
 
 /// The most bytes of a sentence.

@@ -1,10 +1,9 @@
 //! The words of a message by their places, and their bytes.
 
-ghost use Rattle.cap_explain.specs.Leading.{byte_of, frame_words, table_words, word_of};
-ghost use Rattle.cap_vet.specs.Taken.{start_of};
-ghost use Rattle.std.specs.Prelude.{◌+◌, ◌*◌, ◌^◌, ◌<◌, ◌≡◌, ◌≤◌, length};
+ghost use Rattle.cap_explain.specs.Leading.{first_byte_of, frame_words, message_table_words, word_of};
+ghost use Rattle.std.specs.Prelude.{◌<◌, ◌≡◌, ◌≤◌, length};
 
-use cap_frame::Segments;
+use cap_frame::{Segments, message_words, words_before};
 
 /// Word `w` of segment `s`, if there is one.
 pub(crate) fn word_of<M: Segments>(message: &M, s: u32, w: u64) -> Option<u64>
@@ -16,22 +15,9 @@ pub(crate) fn word_of<M: Segments>(message: &M, s: u32, w: u64) -> Option<u64>
     Some(message.word(s, w as u32))
 }
 
-/// The words of the first `segments` segments of a message together.
-fn words_before<M: Segments>(message: &M, segments: u32) -> u64
-    requires { segments ≤ length (M.segments message.now) }
-    ensures exact { result ≡ start_of (M.segments message.now) segments }
-    ensures few { result ≤ 512 * 2 ^ 32 }
-{
-    let mut words = 0u64;
-    for s in 0..segments {
-        words += u64::from(message.len(s));
-    }
-    words
-}
-
 /// The words of the segment table of a message, or none if the message has no table.
-fn table_words<M: Segments>(message: &M, has_table: bool) -> u64
-    ensures value { result ≡ table_words has_table (M.segments message.now) }
+fn message_table_words<M: Segments>(message: &M, has_table: bool) -> u64
+    ensures value { result ≡ message_table_words has_table (M.segments message.now) }
     ensures few { result ≤ 257 }
 {
     if has_table {
@@ -43,11 +29,11 @@ fn table_words<M: Segments>(message: &M, has_table: bool) -> u64
 
 /// The first byte of word `w` of segment `s` in the message, its segment table included if it has
 /// one.
-pub(crate) fn byte_of<M: Segments>(message: &M, has_table: bool, s: u32, w: u32) -> u64
+pub(crate) fn first_byte_of<M: Segments>(message: &M, has_table: bool, s: u32, w: u32) -> u64
     requires { s < length (M.segments message.now) }
-    ensures { result ≡ byte_of has_table (M.segments message.now) s w }
+    ensures { result ≡ first_byte_of has_table (M.segments message.now) s w }
 {
-    8 * (table_words(message, has_table) + words_before(message, s) + u64::from(w))
+    8 * (message_table_words(message, has_table) + words_before(message, s) + u64::from(w))
 }
 
 /// How many words the frame of a message has: its segment table, and the words of its segments
@@ -55,5 +41,5 @@ pub(crate) fn byte_of<M: Segments>(message: &M, has_table: bool, s: u32, w: u32)
 pub fn frame_words<M: Segments>(message: &M) -> u64
     ensures { result ≡ frame_words (M.segments message.now) }
 {
-    u64::from(message.count() / 2 + 1) + words_before(message, message.count())
+    u64::from(message.count() / 2 + 1) + message_words(message)
 }

@@ -17,3 +17,4 @@ pub mod Fronts
 pub mod FrontAnswers
 pub mod AfterTable
 pub mod TableBytes
+pub mod SegmentStarts

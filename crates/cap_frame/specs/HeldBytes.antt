@@ -16,12 +16,12 @@ capacity_in m = vec_capacity m.bytes
 
 -- The capacity of a buffer that a message was read into, before and after. It stays where the
 -- contents weren't begun, and a buffer for which there is no memory is freed.
-abbrev pub LeavesCapacity : Result Bool FrameFault → ℕ → ℕ → Type 0
-LeavesCapacity (Ok true) old new = ⊤
-LeavesCapacity (Ok false) old new = new ≡ old
-LeavesCapacity (Err (TooManySegments count)) old new = new ≡ old
-LeavesCapacity (Err (TooLarge words)) old new = new ≡ old
-LeavesCapacity (Err (Truncated byte)) old new = ⊤
-LeavesCapacity (Err Device) old new = ⊤
-LeavesCapacity (Err Memory) old new = new ≡ 0
-LeavesCapacity (Err Spent) old new = ⊤
+abbrev pub CapacityAfter : Result Bool FrameFault → ℕ → ℕ → Type 0
+CapacityAfter (Ok true) old new = ⊤
+CapacityAfter (Ok false) old new = new ≡ old
+CapacityAfter (Err (TooManySegments count)) old new = new ≡ old
+CapacityAfter (Err (TooLarge words)) old new = new ≡ old
+CapacityAfter (Err (Truncated byte)) old new = ⊤
+CapacityAfter (Err Device) old new = ⊤
+CapacityAfter (Err Memory) old new = new ≡ 0
+CapacityAfter (Err Spent) old new = ⊤

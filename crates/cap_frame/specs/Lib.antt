@@ -12,4 +12,5 @@ pub mod Bytes
 pub mod HeldBytes
 pub mod Fronts
 pub mod Framed
+pub mod SegmentStarts
 pub mod FrameNames

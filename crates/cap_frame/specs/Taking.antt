@@ -1,7 +1,7 @@
 -- What taking words from a source does to it (profile). g has the members of its type.
 use Rattle.std.specs.Io.KnownBytes.{Keeps}
 use Rattle.std.specs.Prelude.{Bool, IfSome, List, OnSome, [], drop, false, length, true, ℕ, ◌<◌, ◌∷◌, ◌≡◌, ◌⊎◌}
-use Rattle.cap_words.specs.Ends.{Fails, WasBroken, Works}
+use Rattle.cap_words.specs.ByteIo.{Fails, WasBroken, Works}
 use Rattle.cap_words.specs.TakingMany.{ReadsBytes, TakesWords}
 use Rattle.cap_words.specs.declared.sources.SourceFault.{SourceFault}
 use Rattle.cap_words.specs.declared.sources.SourceFault.TheVariants.{Device, Spent, Truncated}

@@ -1,7 +1,7 @@
 //! Reading messages into one buffer.
 
 ghost use Rattle.cap_frame.specs.Bytes.{cut};
-ghost use Rattle.cap_frame.specs.HeldBytes.{LeavesCapacity, held_segments, capacity_in};
+ghost use Rattle.cap_frame.specs.HeldBytes.{CapacityAfter, held_segments, capacity_in};
 ghost use Rattle.cap_frame.specs.Limit.{limit_of};
 ghost use Rattle.cap_frame.specs.Reading.{IsResult, LacksMemory, ReadsFrame, has_message};
 ghost use Rattle.cap_frame.specs.TableSteps.{LeavesSizes};
@@ -36,7 +36,7 @@ fn read_parts<S: WordSource>(
     ensures inside { result ≡ Ok true → 8 * sum sizes.new.items ≤ vec_len bytes.new }
     ensures memory { IsErrOf result FrameFault.Memory → LacksMemory S.WordSource (limit_of limit)
         (vec_capacity bytes.old) source.old source.new }
-    ensures fits { LeavesCapacity result (vec_capacity bytes.old) (vec_capacity bytes.new) }
+    ensures fits { CapacityAfter result (vec_capacity bytes.old) (vec_capacity bytes.new) }
     ensures left { IfErr result (λ fault. IfSome (S.words source.old) (λ ws.
         LeavesSizes fault ws sizes.new.items)) }
 {
@@ -81,7 +81,7 @@ pub fn read_into<S: WordSource>(
     ensures memory { IsErrOf result FrameFault.Memory → LacksMemory S.WordSource (limit_of limit)
         (capacity_in message.old) source.old source.new }
     // Nothing was allocated for a message past a limit.
-    ensures fits { LeavesCapacity result (capacity_in message.old) (capacity_in message.new) }
+    ensures fits { CapacityAfter result (capacity_in message.old) (capacity_in message.new) }
     ensures blank { (result ≡ Ok true → ⊥) → held_segments message.new ≡ [] ∷ [] }
 {
     let ByteMessage {
@@ -127,7 +127,7 @@ pub fn read_noting<S: WordSource>(
     ensures memory { IsErrOf result FrameFault.Memory → LacksMemory S.WordSource (limit_of limit)
         (capacity_in message.old) source.old source.new }
     // Nothing was allocated for a message past a limit.
-    ensures fits { LeavesCapacity result (capacity_in message.old) (capacity_in message.new) }
+    ensures fits { CapacityAfter result (capacity_in message.old) (capacity_in message.new) }
     ensures blank { (result ≡ Ok true → ⊥) → held_segments message.new ≡ [] ∷ [] }
     ensures table { IfErr result (λ fault. LeavesTable fault (S.words source.old) table.new) }
     ensures same { OnOk result (table.new ≡ table.old) }

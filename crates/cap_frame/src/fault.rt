@@ -6,6 +6,9 @@ ghost use Rattle.std.specs.Prelude.{◌≡◌, ◌≤◌, ◌↔◌, IfSome, IsS
 
 use cap_words::SourceFault;
 
+/// The most words that a limit of a message's words, or of its charge, may allow.
+pub const MOST_WORDS: u64 = 268435456;
+
 /// The most words that a message may have in all its segments together, at most 268435456.
 #[derive(Clone, Copy, Debug, PartialEq, Eq, Drop)]
 pub struct SizeLimit {
@@ -21,7 +24,7 @@ impl SizeLimit {
         ensures some { IsSome result ↔ (words ≤ most_words) }
         ensures words { IfSome result (λ limit. limit_of limit ≡ words) }
     {
-        if words <= 268435456 {
+        if words <= MOST_WORDS {
             Some(SizeLimit { words })
         } else {
             None

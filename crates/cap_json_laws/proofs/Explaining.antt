@@ -8,12 +8,12 @@ use Rattle.serde_json.specs.Written.{compact_text}
 use Rattle.cap_spec.specs.PathTexts.{path_text}
 use Rattle.cap_spec.specs.Texts.{refused}
 use Rattle.cap_spec.specs.declared.Step.{Step}
-use Rattle.cap_text.specs.JsonLines.{accepted_json, explained_json, filter_member, object_start, path_member, reason_members, steps_member}
-use Rattle.cap_json_laws.specs.JsonFields.{Field, Fits, IsLineOf, head_fields, object_of}
+use Rattle.cap_text.specs.JsonLines.{accepted_json, cycle_member, explained_json, filter_member, object_start, path_member, reason_members, steps_member}
+use Rattle.cap_json_laws.specs.JsonFields.{Field, Fits, HasLevel, IsLineOf, head_fields, numeral, object_of}
 use Rattle.cap_json_laws.proofs.Escapes.{path_same}
-use Rattle.cap_json_laws.proofs.Fields.{AreRead, AreRead-append, object_read, string_read}
+use Rattle.cap_json_laws.proofs.Fields.{AreRead, AreRead-append, number_read, object_read, string_read}
 use Rattle.cap_json_laws.proofs.Lines.{IsSame, accepted_line, four, numbered, object_line, place-later, place_read, placed}
-use Rattle.cap_json_laws.proofs.Members.{later, object-later, string-later}
+use Rattle.cap_json_laws.proofs.Members.{later, later-append, number-later, object-later, string-later}
 use Rattle.cap_json_laws.proofs.Objects.{ordered}
 
 -- the member of a path, which may be left out
@@ -33,7 +33,17 @@ why_with name place path sentence = (codes "reason", string name) ∷ (place ++ 
 abbrev pub why : List ℕ → ℕ → ℕ → ℕ → Option (List Step) → List ℕ → List Field
 why name s w p path sentence = why_with name (placed s w p) (on_path path) sentence
 
+-- the member of a cycle, if there is one
+abbrev pub round : Option ℕ → List Field
+round None = []
+round (Some level) = (codes "cycle_level", numeral level) ∷ []
+
 -- ---- texts
+
+cycle-later : (cycle : Option ℕ) → cycle_member cycle ≡ later (round cycle)
+unfolding escape_byte
+cycle-later None = refl
+cycle-later (Some level) = number-later (codes "cycle_level") level refl
 
 shown-later : (is_long : Bool) (steps : List Step) →
     (if is_long then [] else steps_member steps) ≡ later (shown is_long steps)
@@ -67,6 +77,10 @@ filter-later name s w p path sentence named said =
 
 -- ---- values
 
+cycle_read : (levels : ℕ) (cycle : Option ℕ) → HasLevel cycle → AreRead levels (round cycle) (round cycle)
+cycle_read levels None fits = tt
+cycle_read levels (Some level) fits = (number_read levels (codes "cycle_level") level fits, tt)
+
 shown_read : (levels : ℕ) (is_long : Bool) (steps : List Step) → AreRead levels (shown is_long steps) (shown is_long steps)
 shown_read levels true steps = tt
 shown_read levels false steps = (string_read levels (codes "path") (path_text steps), tt)
@@ -92,32 +106,44 @@ why_same name s w zero false steps sentence = refl
 why_same name s w (suc p) true steps sentence = refl
 why_same name s w (suc p) false steps sentence = refl
 
-explained_same : (n : ℕ) (name : List ℕ) (s w p : ℕ) (is_long : Bool) (steps : List Step) (sentence : List ℕ) →
-    IsSame (head_fields n (codes "refused") (why_with name (placed s w p) (shown is_long steps) sentence))
-explained_same n name s w zero true steps sentence = refl
-explained_same n name s w zero false steps sentence = refl
-explained_same n name s w (suc p) true steps sentence = refl
-explained_same n name s w (suc p) false steps sentence = refl
+explained_same : (n : ℕ) (name : List ℕ) (s w p : ℕ) (is_long : Bool) (steps : List Step) (sentence : List ℕ) (cycle : Option ℕ) →
+    IsSame (head_fields n (codes "refused") (why_with name (placed s w p) (shown is_long steps) sentence ++ round cycle))
+explained_same n name s w zero true steps sentence None = refl
+explained_same n name s w zero false steps sentence None = refl
+explained_same n name s w (suc p) true steps sentence None = refl
+explained_same n name s w (suc p) false steps sentence None = refl
+explained_same n name s w zero true steps sentence (Some level) = refl
+explained_same n name s w zero false steps sentence (Some level) = refl
+explained_same n name s w (suc p) true steps sentence (Some level) = refl
+explained_same n name s w (suc p) false steps sentence (Some level) = refl
 
 pub on_paths : (P : List Field → Type 0) (path : Option (List Step)) →
     ((is_long : Bool) (steps : List Step) → P (shown is_long steps)) → P (on_path path)
 on_paths P None h = h true []
 on_paths P (Some steps) h = h (nat_lt 257 (length steps)) steps
 
-pub explained_line : (n : ℕ) (name : List ℕ) (s w p : ℕ) (path : Option (List Step)) (sentence : List ℕ) →
-    escape name ≡ name → escape sentence ≡ sentence → Fits n → Fits s → Fits w → Fits p →
-    IsLineOf (explained_json n (refused name s w p) path sentence)
-    (object_of (head_fields n (codes "refused") (why name s w p path sentence)))
+regroup : (a b c d : List ℕ) → a ++ ((b ++ c) ++ d) ≡ ((a ++ b) ++ c) ++ d
+regroup a b c d = simp append_assoc
+
+pub explained_line : (n : ℕ) (name : List ℕ) (s w p : ℕ) (path : Option (List Step)) (sentence : List ℕ) (cycle : Option ℕ) →
+    escape name ≡ name → escape sentence ≡ sentence → Fits n → Fits s → Fits w → Fits p → HasLevel cycle →
+    IsLineOf (explained_json n (refused name s w p) path sentence cycle)
+    (object_of (head_fields n (codes "refused") (why name s w p path sentence ++ round cycle)))
 unfolding escape_byte
-explained_line n name s w p path sentence named said fits s_fits w_fits p_fits =
-    let members = why name s w p path sentence in
-    let text = codes "," ++ reason_members name s w p path sentence in
-    let same = on_paths (λ shown_path. IsSame (head_fields n (codes "refused") (why_with name (placed s w p) shown_path sentence)))
-    path (λ is_long steps. explained_same n name s w p is_long steps sentence) in
-    let line = object_line n (codes "refused") text members members refl (why-later name s w p path sentence named said) fits
-    (why_read 1 name s w p path sentence s_fits w_fits p_fits) same in
+explained_line n name s w p path sentence cycle named said fits s_fits w_fits p_fits level_fits =
+    let reasons = why name s w p path sentence in
+    let members = reasons ++ round cycle in
+    let text = (codes "," ++ reason_members name s w p path sentence) ++ cycle_member cycle in
+    let is = ap₂ (λ (x y : List ℕ). x ++ y) (why-later name s w p path sentence named said) (cycle-later cycle)
+    ∙ sym (later-append reasons (round cycle)) in
+    let same = on_paths (λ shown_path. IsSame (head_fields n (codes "refused")
+    (why_with name (placed s w p) shown_path sentence ++ round cycle)))
+    path (λ is_long steps. explained_same n name s w p is_long steps sentence cycle) in
+    let line = object_line n (codes "refused") text members members refl is fits
+    (AreRead-append 1 reasons reasons (round cycle) (round cycle) (why_read 1 name s w p path sentence s_fits w_fits p_fits)
+    (cycle_read 1 cycle level_fits)) same in
     subst (λ front. IsLineOf (front ++ codes "}\n") (object_of (head_fields n (codes "refused") members)))
-    (sym (append_assoc (object_start n (codes "refused")) (codes ",") (reason_members name s w p path sentence))) line
+    (regroup (object_start n (codes "refused")) (codes ",") (reason_members name s w p path sentence) (cycle_member cycle)) line
 
 pub filtered_line : (n c d p k : ℕ) (name : List ℕ) (s w q : ℕ) (path : Option (List Step)) (sentence : List ℕ) →
     escape name ≡ name → escape sentence ≡ sentence → Fits n → Fits c → Fits d → Fits p → Fits k → Fits s → Fits w → Fits q →

@@ -1,16 +1,34 @@
 -- What the members of an object are read as.
-use Rattle.std.proofs.Common.{Bool, List, Some, [], ap, arith, refl, suc, ℕ, ◌++◌, ◌≡◌, ◌≤◌, ◌∙◌, ◌∷◌}
-use Rattle.std.specs.Prelude.{option_map, ⊤}
-use Rattle.json.specs.Tree as tree
-use Rattle.json.proofs.Printed.Trees.{ArePrintable-json_tokens}
+use Rattle.std.proofs.Common.{Bool, List, Some, [], ap, arith, refl, suc, ℕ, ◌++◌, ◌≡◌, ◌≤◌, ◌∙◌, ◌∷◌, Option}
+use Rattle.std.proofs.Common.{append-nil, sym}
+use Rattle.std.specs.Prelude.{option_map, ⊤, option_and_then}
+use Rattle.json.proofs.Printed.Trees.{ArePrintable-json_tokens, value-json_tokens}
 use Rattle.json.proofs.Printed.Decimals.{IsNumber-decimal}
-use Rattle.serde_json.specs.Data.{Members, boolean, no_members, null, number, object, put, string}
-use Rattle.serde_json.specs.Read.{of_json, of_members, read}
+use Rattle.serde_json.specs.Data.{Members, boolean, no_members, null, number, object, put, string, Data}
+use Rattle.serde_json.specs.Read.{of_json, of_members, read, max_depth}
 use Rattle.serde_json.specs.Written.{compact_text, members_outline, outline}
 use Rattle.serde_json.proofs.Numbers.{number_of-decimal}
 use Rattle.cap_json_laws.specs.JsonFields.{Field, Fits, members_of, numeral, object_of}
 use Rattle.cap_json_laws.proofs.Objects.{in_order, ordered}
-use Rattle.cap_json_laws.proofs.Reading.{reads_as}
+use Rattle.json.specs.Lex.{tokens}
+use Rattle.json.specs.Print.{ArePrintable}
+use Rattle.json.specs.Tree.{depth, json_tokens}
+use Rattle.json.proofs.Printed.Tokens.{tokens-print}
+use Rattle.json.specs.Token.{Token}
+use Rattle.serde_json.proofs.Texts.{print-outline}
+use Rattle.json.specs.Tree as tree
+use Rattle.json.specs.Json as json
+
+-- The text of a value reads as what its members give.
+abbrev whole : Option (json.Json × List Token) → Option Data
+whole parsed = option_and_then of_json (option_and_then (λ p. json.if_last p.0 p.1) parsed)
+
+pub reads_as : (d : Data) → ArePrintable (json_tokens (outline d)) → depth (outline d) ≤ max_depth →
+    read (compact_text d) ≡ of_json (outline d)
+reads_as d printable shallow =
+    let ts = json_tokens (outline d) in
+    let same = ap tokens (sym (print-outline d)) ∙ tokens-print ts printable in
+    ap whole (ap (json.value max_depth) (same ∙ sym (append-nil ts)) ∙ value-json_tokens (outline d) max_depth [] shallow)
 
 -- a member is read as one of the same name and this value
 pub record IsRead (levels : ℕ) (field value : Field) : Type 0 where

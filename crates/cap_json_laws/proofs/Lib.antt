@@ -1,11 +1,8 @@
-mod Reading
 mod Objects
 mod Members
 mod Fields
 mod Lines
 mod Explaining
 mod Escapes
-mod HexDigits
 mod ReasonNames
-mod Canonical
 mod Sentences

@@ -84,11 +84,16 @@ reason_fields name s w p path sentence =
     (codes "reason", string name)
     ∷ (place_fields s w p ++ path_fields path ++ (codes "sentence", string sentence) ∷ [])
 
+-- the level at which the path was at its pointer word before, if it was: the level of a cycle
+abbrev pub cycle_fields : Option ℕ → List Field
+cycle_fields None = []
+cycle_fields (Some level) = (codes "cycle_level", numeral level) ∷ []
+
 -- the value of message n with this verdict, which is explained if it is refused
-abbrev pub explained_value : ℕ → Verdict → Option (List Step) → List ℕ → Data
-explained_value n (accepted c d p k) path sentence = verdict_value n (accepted c d p k)
-explained_value n (refused name s w p) path sentence =
-    object_of (head_fields n (codes "refused") (reason_fields name s w p path sentence))
+abbrev pub explained_value : ℕ → Verdict → Option (List Step) → List ℕ → Option ℕ → Data
+explained_value n (accepted c d p k) path sentence cycle = verdict_value n (accepted c d p k)
+explained_value n (refused name s w p) path sentence cycle =
+    object_of (head_fields n (codes "refused") (reason_fields name s w p path sentence ++ cycle_fields cycle))
 
 -- the field of an accepted message that has this verdict by what filter, the guard and the libraries demand
 abbrev pub filter_fields : Verdict → Option (List Step) → List ℕ → List Field
@@ -115,7 +120,12 @@ abbrev pub HasNumbers : Verdict → Type 0
 HasNumbers (accepted c d p k) = Fits c × Fits d × Fits p × Fits k
 HasNumbers (refused name s w p) = Fits s × Fits w × Fits p
 
--- so have those of the first difference, if there is one
-abbrev pub HasPlace : Option Difference → Type 0
-HasPlace None = ⊤
-HasPlace (Some d) = Fits d.segment × Fits d.word × Fits d.pointers
+-- so has the level of a cycle, if there is one
+abbrev pub HasLevel : Option ℕ → Type 0
+HasLevel None = ⊤
+HasLevel (Some level) = Fits level
+
+-- so have the numbers of the first difference, if there is one
+abbrev pub HasDifferencePlace : Option Difference → Type 0
+HasDifferencePlace None = ⊤
+HasDifferencePlace (Some d) = Fits d.segment × Fits d.word × Fits d.pointers

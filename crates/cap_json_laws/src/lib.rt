@@ -3,14 +3,14 @@
 #![tactic(auto)]
 
 ghost use Rattle.cap_explain.specs.Meanings.{HasTrueReason};
-ghost use Rattle.cap_json_laws.specs.JsonFields.{Fits, HasNumbers, HasPlace, IsLineOf, IsUnescaped, accepted_value, canonical_fields, check_value, explained_value, filter_fields, hash_value, no_form_value, verdict_value};
+ghost use Rattle.cap_json_laws.specs.JsonFields.{Fits, HasLevel, HasNumbers, HasDifferencePlace, IsLineOf, IsUnescaped, accepted_value, canonical_fields, check_value, explained_value, filter_fields, hash_value, no_form_value, verdict_value};
 ghost use Rattle.cap_difference.specs.declared.difference.Difference.{Difference};
 ghost use Rattle.cap_difference.specs.declared.reason.DifferenceReason.{DifferenceReason};
 ghost use Rattle.cap_explain.specs.Sentences.{difference_sentence};
 ghost use Rattle.cap_text.specs.DifferenceLines.{canonical_members};
 ghost use Rattle.cap_text.specs.JsonLines.{accepted_json, check_json, explained_json, filter_member, hash_json, no_form_json, verdict_json};
 ghost use Rattle.cap_spec.specs.SpecNames.{refused, strict_verdict};
-ghost use Rattle.cap_spec.specs.Texts.{Verdict, accepted};
+ghost use Rattle.cap_spec.specs.Texts.{accepted};
 ghost use Rattle.cap_spec.specs.declared.Step.{Step};
 ghost use Rattle.cap_spec.specs.declared.StrictRefusal.{StrictRefusal};
 ghost use Rattle.std.specs.List.{AllByRecursion};
@@ -56,13 +56,14 @@ pub fn no_form_reads_back()
 
 /// The line of `explain` about a refused message reads back as its fields, if its sentence has no byte
 /// that JSON escapes. The fields are the number, the verdict, the name of the reason, and the place and
-/// the number of the pointer. Then come the path to it and the sentence. If no pointer is refused, there
-/// is no place. There is no path if none is given, or if it has more than 257 steps. JSON escapes no
-/// byte of a path.
+/// the number of the pointer. Then come the path to it, the sentence, and the level of a cycle, if there
+/// is one. If no pointer is refused, there is no place. There is no path if none is given, or if it has
+/// more than 257 steps. JSON escapes no byte of a path.
 pub fn explained_reads_back()
-    ensures { (n : ℕ) (fault : StrictRefusal) (path : Option (List Step)) (sentence : List ℕ) →
-        let v = strict_verdict fault in Fits n → HasNumbers v → IsUnescaped sentence →
-        IsLineOf (explained_json n v path sentence) (explained_value n v path sentence) }
+    ensures { (n : ℕ) (fault : StrictRefusal) (path : Option (List Step)) (sentence : List ℕ)
+        (cycle : Option ℕ) → let v = strict_verdict fault in
+        Fits n → HasNumbers v → IsUnescaped sentence → HasLevel cycle →
+        IsLineOf (explained_json n v path sentence cycle) (explained_value n v path sentence cycle) }
 {}
 
 /// The line of `explain` about a message that uses a word twice reads back in the same way, with such a
@@ -70,7 +71,7 @@ pub fn explained_reads_back()
 pub fn explained_overlap_reads_back()
     ensures { (n s w p : ℕ) (path : Option (List Step)) (sentence : List ℕ) →
         let v = refused (codes "Overlap") s w p in Fits n → HasNumbers v → IsUnescaped sentence →
-        IsLineOf (explained_json n v path sentence) (explained_value n v path sentence) }
+        IsLineOf (explained_json n v path sentence None) (explained_value n v path sentence None) }
 {}
 
 /// The line of `explain` about an accepted message reads back as its number, its verdict, the numbers of
@@ -92,13 +93,13 @@ pub fn explained_accepted_reads_back()
 /// a sentence.
 pub fn explained_canonical_reads_back()
     ensures passes { (n c d p k : ℕ) (found : Option Difference) (path : Option (List Step))
-        (sentence : List ℕ) → Fits n → HasNumbers (accepted c d p k) → HasPlace found →
+        (sentence : List ℕ) → Fits n → HasNumbers (accepted c d p k) → HasDifferencePlace found →
         IsUnescaped sentence →
         IsLineOf (accepted_json n c d p k (canonical_members found path sentence ++ []))
         (accepted_value n c d p k (canonical_fields found path sentence)) }
     ensures is_filtered { (n c d p k : ℕ) (found : Option Difference) (path : Option (List Step))
         (sentence : List ℕ) (fault : StrictRefusal) (other : Option (List Step)) (why : List ℕ) →
-        let v = strict_verdict fault in Fits n → HasNumbers (accepted c d p k) → HasPlace found →
+        let v = strict_verdict fault in Fits n → HasNumbers (accepted c d p k) → HasDifferencePlace found →
         IsUnescaped sentence → HasNumbers v → IsUnescaped why →
         IsLineOf (accepted_json n c d p k (canonical_members found path sentence
         ++ filter_member v other why))

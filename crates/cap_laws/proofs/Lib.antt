@@ -1,5 +1,3 @@
-pub mod Outcomes
-pub mod FrameBytes
 mod Examples
 mod TreeExamples
 mod ReasonExamples
@@ -9,5 +7,4 @@ mod SharedExamples
 mod CanonicalExamples
 mod StrictExamples
 mod SignExamples
-pub mod HighSteps
 pub mod Trimming

@@ -49,7 +49,7 @@ both_limits : IsFirstReason one_word_struct 0 0 0 0 0 1 DepthLimit
 both_limits = is_deep refl deep_word
 
 -- The root is the first pointer of each message that has one.
-root_tour : (m : List (List ℕ)) → Reaches m [] 1 0 0 → IsTour m [] ([] ∷ [])
+pub root_tour : (m : List (List ℕ)) → Reaches m [] 1 0 0 → IsTour m [] ([] ∷ [])
 root_tour m r = record {
   rising = tt;
   reached = λ q i. reached q i;

@@ -14,7 +14,7 @@ use Rattle.cap_spec.proofs.ProofNames.{Reaches, word, IsTree, Tree, cap, cap_cou
 use Rattle.cap_spec.proofs.ProofNames.{CostOf, Justified, IsWord}
 use Rattle.cap_spec.proofs.Trees.DenotedTrees.{denoted_is_tree}
 use Rattle.cap_laws.specs.LawNames.{Reason, WordLimit, Step, Ptr}
-use Rattle.cap_laws.proofs.LimitExamples.{finds_near}
+use Rattle.cap_laws.proofs.LimitExamples.{finds_near, root_tour}
 
 -- a struct of two pointers: to a struct of the word 7, and to capability 5
 abbrev two_pointers : List (List ℕ)
@@ -145,27 +145,6 @@ no_words = record { segment = 0; word = 0; reason = WordLimit; pointers = 1 }
 reaches_root : Reaches two_pointers [] 1 0 0
 reaches_root = (0x0002000000000000, 0, refl, (refl, refl), refl)
 
-tour_root : IsTour two_pointers [] ([] ∷ [])
-tour_root = record {
-  rising = tt;
-  reached = λ q i. reached q i;
-  all = λ q level s w h before. all q before;
-  none_after = after;
-}
-  where
-    reached : (q : List Step) → IsOneOf q ([] ∷ []) → (level s w : ℕ) × Reaches two_pointers q level s w
-    reached q (inl e) = (1, 0, 0, subst (λ (x : List Step). Reaches two_pointers x 1 0 0) (sym e) reaches_root)
-    reached q (inr e) = absurd e
-
-    all : (q : List Step) → (q ≡ []) ⊎ Before q [] → IsOneOf q ([] ∷ [])
-    all q (inl e) = inl e
-    all [] (inr b) = absurd b
-    all (x ∷ q) (inr b) = absurd b
-
-    after : (q : List Step) → IsOneOf q ([] ∷ []) → (q ≡ []) ⊎ Before q []
-    after q (inl e) = inl e
-    after q (inr e) = absurd e
-
 past_no_words : IsFirstReason two_pointers 0 2 0 0 0 1 WordLimit
 past_no_words = is_past 2 refl
     (λ (k, t, b, q, tag, finds, tagged, past). search rules)
@@ -176,7 +155,7 @@ refused_no_words = inr (first_fault_kept fault (lit≤ tt) (λ p level s w i. ab
   where
     fault : IsFaultAt two_pointers 0 2 [] no_words
     fault = record {
-      numbered = record { level = 1; tour = [] ∷ []; reached = reaches_root; is_tour = tour_root; count = refl };
+      numbered = record { level = 1; tour = [] ∷ []; reached = reaches_root; is_tour = root_tour two_pointers reaches_root; count = refl };
       before = [];
       charge = 0;
       whole = refl;

@@ -7,8 +7,8 @@ use Rattle.cap_spec.proofs.ProofNames.{take-append-drop, take-take, unwrap_or, z
 use Rattle.cap_spec.proofs.ProofNames.{◌∷◌, ◌≡◌, ◌≤◌, nil_from_length, Consumes, AllByRecursion, little_number, capped}
 use Rattle.cap_spec.proofs.ProofNames.{plain_text, plain_words, rules}
 use Rattle.cap_words.specs.TakingMany.{TakesAll}
-use Rattle.cap_words.specs.declared.ends.Phase.{Phase}
-use Rattle.cap_words.specs.declared.ends.Phase.TheVariants.{Open}
+use Rattle.cap_words.specs.declared.byte_io.Phase.{Phase}
+use Rattle.cap_words.specs.declared.byte_io.Phase.TheVariants.{Open}
 use Rattle.cap_words.proofs.Filling.{plain_join}
 use Rattle.cap_pack.specs.Buffered.{BytesGive, CourseLeads, UnpacksInto}
 use Rattle.cap_pack.specs.Course.{Course, course, course_is_cut, course_places, course_words, first_word, gives}

@@ -1,6 +1,5 @@
 pub mod BufferedBytes
 pub mod Written
-pub mod Joining
 pub mod Heads
 pub mod Courses
 pub mod Ties

@@ -2,8 +2,8 @@
 use Rattle.cap_spec.proofs.ProofNames.{List, None, OnSome, Option, Some, [], ap, false, option_map, refl, suc, true}
 use Rattle.cap_spec.proofs.ProofNames.{unwrap_or, zero, ℕ, ◌++◌, ◌-◌, ◌<◌, ◌∷◌, ◌≡◌, Consumes, IsAtEnd, packed_ends}
 use Rattle.cap_spec.proofs.ProofNames.{packed_is_cut, unpacked, rules}
-use Rattle.cap_words.specs.declared.ends.Phase.{Phase}
-use Rattle.cap_words.specs.declared.ends.Phase.TheVariants.{Open}
+use Rattle.cap_words.specs.declared.byte_io.Phase.{Phase}
+use Rattle.cap_words.specs.declared.byte_io.Phase.TheVariants.{Open}
 use Rattle.cap_pack.specs.Course.{Course, course, course_is_cut, course_places, course_words, ends, gives, stops}
 use Rattle.cap_pack.specs.State.{ahead}
 use Rattle.cap_pack.proofs.Courses.{course_none}

@@ -1,7 +1,7 @@
 -- Which words of an unpacker buffered bytes give (profile).
 use Rattle.std.specs.Prelude.{List, drop, length, take, ℕ, ◌%◌, ◌++◌, ◌+◌, ◌<◌, ◌^◌, ◌∷◌, ◌≡◌, ◌≤◌}
 use Rattle.cap_spec.specs.Plain.{capped, plain_words}
-use Rattle.cap_words.specs.declared.ends.Phase.TheVariants.{Open}
+use Rattle.cap_words.specs.declared.byte_io.Phase.TheVariants.{Open}
 use Rattle.cap_pack.specs.Course.{Course, course_is_cut, course_places, course_words}
 use Rattle.cap_pack.specs.State.{ahead}
 use Rattle.cap_pack.specs.declared.buffered.Unpacked.{Unpacked}

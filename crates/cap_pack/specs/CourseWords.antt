@@ -7,8 +7,8 @@ use Rattle.byteorder.specs.Endian.{little_number}
 use Rattle.cap_spec.specs.SpecNames.{spread, IsWord}
 use Rattle.cap_spec.proofs.Bytes.Lists.{all_drop}
 use Rattle.cap_spec.proofs.Packed.UnpackedWords.{eight_bytes_below, spread_below}
-use Rattle.cap_words.specs.declared.ends.Phase.{Phase}
-use Rattle.cap_words.specs.declared.ends.Phase.TheVariants.{Ended, Failed, Open}
+use Rattle.cap_words.specs.declared.byte_io.Phase.{Phase}
+use Rattle.cap_words.specs.declared.byte_io.Phase.TheVariants.{Ended, Failed, Open}
 use Rattle.cap_pack.specs.Course.{Course, course_words, gives, head_rest, plain_of, stops, zeros_of, zeros_then, course}
 use Rattle.cap_pack.specs.Course.{course_in, first_word}
 use Rattle.cap_pack.specs.State.{ahead}

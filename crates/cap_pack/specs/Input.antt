@@ -1,5 +1,5 @@
 -- The input that an unpacker reads from (profile).
-use Rattle.cap_words.specs.declared.ends.ByteIn.{Ghosts}
+use Rattle.cap_words.specs.declared.byte_io.ByteIn.{Ghosts}
 use Rattle.cap_pack.specs.declared.unpacker.Unpacker.{Unpacker}
 
 -- `source.into_inner()`

@@ -1,7 +1,7 @@
 -- What an unpacker has still to give, by its phase and what it holds (profile).
 use Rattle.std.specs.Prelude.{List, ℕ}
-use Rattle.cap_words.specs.declared.ends.Phase.{Phase}
-use Rattle.cap_words.specs.declared.ends.Phase.TheVariants.{Ended, Failed, Open}
+use Rattle.cap_words.specs.declared.byte_io.Phase.{Phase}
+use Rattle.cap_words.specs.declared.byte_io.Phase.TheVariants.{Ended, Failed, Open}
 use Rattle.cap_pack.specs.Course.{Course, course, ends, zeros_then}
 
 -- what it gives of these bytes to come after this position, with `held` zero words to give and

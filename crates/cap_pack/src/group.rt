@@ -1,7 +1,7 @@
 //! The group that a packer holds open, and how it is written.
 
 ghost use Rattle.cap_pack.specs.Holding.{group_bytes};
-ghost use Rattle.cap_words.specs.Ends.{MemoryFails, OutputFails};
+ghost use Rattle.cap_words.specs.ByteIo.{MemoryFails, OutputFails};
 ghost use Rattle.std.specs.Io.KnownBytes.{Appends};
 ghost use Rattle.std.specs.Prelude.{◌≡◌, ◌≤◌, IsErrOf, OnErr, OnOk, take, true, ℕ};
 

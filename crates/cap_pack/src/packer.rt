@@ -2,11 +2,11 @@
 
 ghost use Rattle.cap_pack.specs.Holding.{IsRun, Encodes, first_zeros, group_bytes, held};
 ghost use Rattle.cap_spec.specs.Packing.{group_size, pack_text};
-ghost use Rattle.cap_words.specs.Ends.{MemoryFails, OutputFails, WasClosed};
+ghost use Rattle.cap_words.specs.ByteIo.{MemoryFails, OutputFails, WasClosed};
 ghost use Rattle.cap_words.specs.Sinks.{StaysOpen, StoppedPutting, WasPut, begins_appended};
 ghost use Rattle.cap_words.specs.declared.sinks.SinkFault.TheVariants.{Device, Memory, Spent};
 ghost use Rattle.std.specs.Io.KnownBytes.{Keeps, append_known};
-ghost use Rattle.std.specs.Prelude.{◌++◌, ◌<◌, ◌≡◌, ◌≤◌, ◌||◌, [], ◌∷◌, IsErrOf, List, OnErr, OnOk, drop, false, length, take, true, ℕ};
+ghost use Rattle.std.specs.Prelude.{◌++◌, ◌<◌, ◌≡◌, ◌≤◌, ◌||◌, IsErrOf, List, OnErr, OnOk, drop, false, length, take, true, ℕ};
 
 use super::encoding::BUFFER_BYTES;
 use super::group::{Group, MORE_WORDS, encode_group, write_group};

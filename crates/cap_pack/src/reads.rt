@@ -2,7 +2,7 @@
 
 ghost use Rattle.cap_pack.specs.Course.{course, gives, group_course, stops};
 ghost use Rattle.cap_words.specs.Counting.{Reads, ReadsAll};
-ghost use Rattle.cap_words.specs.Ends.{InputFails, NoFault};
+ghost use Rattle.cap_words.specs.ByteIo.{InputFails, NoFault};
 ghost use Rattle.std.specs.Io.KnownBytes.{IsAtEnd};
 ghost use Rattle.std.specs.Prelude.{◌<◌, ◌≡◌, [], ◌++◌, IfNone, IfOk, IfSome, IsErrOf, List, OnOk, length, suc, true, ℕ};
 

@@ -1,4 +1,3 @@
-pub mod BadSteps
 pub mod PathReading
 pub mod ReadSteps
 pub mod StepsLeft

@@ -6,7 +6,7 @@ use Rattle.cap_spec.proofs.ProofNames.{List, None, Option, Some, [], drop, flat_
 use Rattle.cap_spec.proofs.ProofNames.{length, refl, subst, sym, take-append-drop, ℕ, ◌++◌, ◌<◌, ◌∷◌, ◌≡◌, leb_tells}
 use Rattle.cap_spec.proofs.ProofNames.{decimal_injective, drop_all, AllByRecursion, IsStep, step_text, rules}
 use Rattle.cap_path.specs.PathReading.{IsStepAt}
-use Rattle.cap_path.specs.PathSteps.{AreLeft}
+use Rattle.cap_path.specs.PathSteps.{AreStepsLeft}
 use Rattle.cap_path.specs.declared.steps.PathSteps.{PathSteps}
 
 -- the text of a step and what follows it, in one way
@@ -34,15 +34,15 @@ first_slash text step more e = search rules
 
 -- The step that is read is the first of those that are left,
 pub step_left : (old new : PathSteps) (result : Option Step) (step : Step) (more : List Step) → result ≡ Some step
-    → ((s : Step) (rest : List Step) → AreLeft old (s ∷ rest) → (result ≡ Some s) × AreLeft new rest)
-    → (AreLeft old [] → (result ≡ None) × AreLeft new []) → AreLeft old more
-    → (rest : List Step) × (more ≡ step ∷ rest) × AreLeft new rest
+    → ((s : Step) (rest : List Step) → AreStepsLeft old (s ∷ rest) → (result ≡ Some s) × AreStepsLeft new rest)
+    → (AreStepsLeft old [] → (result ≡ None) × AreStepsLeft new []) → AreStepsLeft old more
+    → (rest : List Step) × (more ≡ step ∷ rest) × AreStepsLeft new rest
 step_left old new result step [] is some none left = let n = (none left).0 in absurd (cc)
 step_left old new result step more is some none left = search rules
 
 -- and without one none are left.
 pub no_step_left : (old new : PathSteps) (result : Option Step) (more : List Step) → result ≡ None
-    → ((s : Step) (rest : List Step) → AreLeft old (s ∷ rest) → (result ≡ Some s) × AreLeft new rest)
-    → AreLeft old more → more ≡ []
+    → ((s : Step) (rest : List Step) → AreStepsLeft old (s ∷ rest) → (result ≡ Some s) × AreStepsLeft new rest)
+    → AreStepsLeft old more → more ≡ []
 no_step_left old new result [] is some left = refl
 no_step_left old new result more is some left = search rules

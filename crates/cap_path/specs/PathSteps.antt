@@ -6,9 +6,9 @@ use Rattle.cap_spec.specs.declared.Step.{Step}
 use Rattle.cap_path.specs.declared.steps.PathSteps.{PathSteps}
 
 -- these steps are left, and their texts are what is left of the text
-abbrev pub AreLeft : PathSteps → List Step → Type 0
-AreLeft left steps = AllByRecursion IsStep steps × (left.rest.now ≡ flat_map step_text steps)
+abbrev pub AreStepsLeft : PathSteps → List Step → Type 0
+AreStepsLeft left steps = AllByRecursion IsStep steps × (left.rest.now ≡ flat_map step_text steps)
 
 -- how many bytes are left of the text
-abbrev pub bytes_left : PathSteps → ℕ
-bytes_left left = length left.rest.now
+abbrev pub text_bytes_left : PathSteps → ℕ
+text_bytes_left left = length left.rest.now

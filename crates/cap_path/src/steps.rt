@@ -1,6 +1,6 @@
 //! The steps of a path, read from its text without memory.
 
-ghost use Rattle.cap_path.specs.PathSteps.{AreLeft, bytes_left};
+ghost use Rattle.cap_path.specs.PathSteps.{AreStepsLeft, text_bytes_left};
 ghost use Rattle.cap_spec.specs.PathTexts.{IsBadAt, IsStep, path_text};
 ghost use Rattle.cap_spec.specs.declared.Step.{Step};
 ghost use Rattle.std.specs.List.{AllByRecursion};
@@ -28,11 +28,11 @@ pub struct PathSteps<'t> {
 /// If all of the text is a prefix of a path, it is the length of the text in bytes.
 pub fn read_path(text: &[u8]) -> Result<PathSteps<'_>, usize>
     ensures ok { IfOk result (λ left. (steps : List Step) × AllByRecursion IsStep steps
-        × (text.now ≡ path_text steps) × AreLeft left steps) }
+        × (text.now ≡ path_text steps) × AreStepsLeft left steps) }
     ensures bad { IfErr result (IsBadAt text.now) }
     // The other direction.
     ensures path { (steps : List Step) → AllByRecursion IsStep steps → text.now ≡ path_text steps →
-        IsOkAnd result (λ left. AreLeft left steps) }
+        IsOkAnd result (λ left. AreStepsLeft left steps) }
     ensures no_path { (at : ℕ) → IsBadAt text.now at → result ≡ Err at }
 {
     if text.is_empty() || text[0] != b'/' {
@@ -54,10 +54,10 @@ impl<'t> PathSteps<'t> {
     /// The next step of the path, and `None` after the last one. Allocates nothing.
     #[inline]
     pub fn next(&mut self) -> Option<Step>
-        ensures some { (step : Step) (more : List Step) → AreLeft self.old (step ∷ more) →
-            (result ≡ Some step) × AreLeft self.new more }
-        ensures none { AreLeft self.old [] → (result ≡ None) × AreLeft self.new [] }
-        ensures shorter { IfSome result (λ _. bytes_left self.new < bytes_left self.old) }
+        ensures some { (step : Step) (more : List Step) → AreStepsLeft self.old (step ∷ more) →
+            (result ≡ Some step) × AreStepsLeft self.new more }
+        ensures none { AreStepsLeft self.old [] → (result ≡ None) × AreStepsLeft self.new [] }
+        ensures shorter { IfSome result (λ _. text_bytes_left self.new < text_bytes_left self.old) }
     {
         let rest = self.rest;
         if rest.is_empty() || rest[0] != b'/' {

@@ -1,5 +1,5 @@
 -- What the answer of a following says of a pointer word (standard: Structs, Lists; the charge is the profile's).
-use Rattle.std.specs.Prelude.{Err, List, Ok, Result, length, ℕ, ◌+◌, ◌<◌, ◌^◌, ◌≡◌, ◌≢◌, ◌≤◌}
+use Rattle.std.specs.Prelude.{Bool, Err, List, Ok, Result, false, if◌then◌else◌, length, ℕ, ◌+◌, ◌<◌, ◌==◌, ◌^◌, ◌≡◌, ◌≢◌, ◌≤◌}
 use Rattle.cap_spec.specs.Following.{IsComposite, TagFits}
 use Rattle.cap_spec.specs.ObjectShapes.{IsPointersShape, IsScalarsShape, IsStructShape, IsStructsShape}
 use Rattle.cap_spec.specs.SpecNames.{Finds, Leads, Wrong, extra, to_cap, to_null, HasWord, segment_of, code, extent, kind}
@@ -14,6 +14,10 @@ use Rattle.cap_ptr.specs.declared.shapes.Followed.TheVariants as followed
 -- the word q is that of a struct, or of a list that has no tag
 abbrev pub IsPlain : ℕ → Type 0
 IsPlain q = (kind q < 2) × (kind q ≡ 1 → code q ≢ 7)
+
+-- a word is a pointer to a list of structs
+abbrev pub is_structs : ℕ → Bool
+is_structs p = if kind p == 1 then code p == 7 else false
 
 -- the shape that the word q encodes, for a list of structs with its tag word
 abbrev pub IsShape : ℕ → ℕ → Shape → Type 0

@@ -1,17 +1,17 @@
 //! Following a pointer word, through its landing pads.
 
-ghost use Rattle.cap_ptr.specs.Reaching.{HasTwoPad, ResolvesTo};
+ghost use Rattle.cap_ptr.specs.Reaching.{HasTwoPad, LeadsTo, ResolvesTo};
 ghost use Rattle.cap_ptr.specs.Shapes.{AnswersObject, IsAnswer, IsFollowed};
-ghost use Rattle.cap_ptr.specs.declared.shapes.Target.{Target};
 ghost use Rattle.cap_spec.specs.Denoting.{Finds};
-ghost use Rattle.cap_spec.specs.Following.{IsOnePad, IsTwoPad, Leads, Wrong, to_cap, to_null};
+ghost use Rattle.cap_spec.specs.Following.{IsComposite, IsOnePad, IsTwoPad, Leads, Wrong, to_cap, to_null};
 ghost use Rattle.cap_spec.specs.Messages.{HasWord, segment_of};
-ghost use Rattle.cap_spec.specs.Pointers.{kind};
+ghost use Rattle.cap_spec.specs.Pointers.{extent, kind};
 ghost use Rattle.cap_spec.specs.declared.Reason.{Reason};
 ghost use Rattle.std.specs.Prelude.{◌+◌, ◌^◌, ◌<◌, ◌≡◌, ◌≢◌, ◌≤◌, ◌↔◌, IfErr, IfOk, IsTrue, length, ℕ};
 
 use crate::forms::{Pointer, far_segment, kind, middle, pad, two};
-use crate::shapes::{Followed, start_of, target_at};
+use crate::near::structs_target;
+use crate::shapes::{Followed, Target, empty_elements, extent, is_structs, plain_shape, start_of};
 use cap_frame::Segments;
 use cap_spec::Reason;
 
@@ -122,6 +122,65 @@ fn object<M: Segments>(
         return Err(Reason::OutOfSegment);
     };
     target_at(message, pads, segment, start, word)
+}
+
+// The target of the word `word`, which encodes its shape, from word `start` of a segment on.
+#[inline(always)]
+fn target_at<M: Segments>(
+    message: &M,
+    pads: u8,
+    segment: u32,
+    start: u64,
+    word: u64,
+) -> Result<Followed, Reason>
+    requires exists { segment < length (M.segments message.now) }
+    requires object { kind word < 2 }
+    requires pads { pads ≤ 2 }
+    requires near { start < 2 ^ 33 }
+    ensures { let m = M.segments message.now in (s w : ℕ) →
+        LeadsTo m s w pads segment start word → IsAnswer m s w result }
+{
+    let words = extent(word);
+    if start + u64::from(words) > u64::from(message.len(segment)) {
+        return Err(Reason::OutOfSegment);
+    }
+    let start = start as u32;
+    if is_structs(word) {
+        return composite(message, pads, segment, start, word);
+    }
+    let charge = u64::from(pads) + u64::from(words) + empty_elements(word);
+    Ok(Followed::Target(Target {
+        segment,
+        start,
+        words,
+        pads,
+        charge,
+        shape: plain_shape(word),
+    }))
+}
+
+// The target of the word `word` of a list of structs, whose words lie inside their segment.
+// It is inlined, since a call writes its result in pieces, and its caller waits for them.
+#[inline(always)]
+fn composite<M: Segments>(
+    message: &M,
+    pads: u8,
+    segment: u32,
+    start: u32,
+    word: u64,
+) -> Result<Followed, Reason>
+    requires exists { segment < length (M.segments message.now) }
+    requires composite { IsComposite word }
+    requires inside { start + extent word ≤ length (segment_of (M.segments message.now) segment) }
+    requires pads { pads ≤ 2 }
+    ensures { let m = M.segments message.now in (s w : ℕ) →
+        LeadsTo m s w pads segment start word → IsAnswer m s w result }
+{
+    let tag = message.word(segment, start);
+    match structs_target(word, tag, segment, start, pads) {
+        Ok(target) => Ok(Followed::Target(target)),
+        Err(reason) => Err(reason),
+    }
 }
 
 // What a far pointer with a one-word pad leads to.

@@ -1,17 +1,18 @@
 //! Objects that their pointer word describes, alone or with the tag of a list of structs.
 
-ghost use Rattle.cap_ptr.specs.Reaching.{LeadsTo};
+ghost use Rattle.cap_ptr.specs.Reaching.{LeadsTo, ResolvesTo};
 ghost use Rattle.cap_ptr.specs.Rows.{FindsRow, HasPointers};
 ghost use Rattle.cap_ptr.specs.Shapes.{FindsTarget, HasListAt, IsPlain};
 ghost use Rattle.cap_ptr.specs.declared.near.Row.{Row};
 ghost use Rattle.cap_spec.specs.Following.{IsComposite, Wrong};
 ghost use Rattle.cap_spec.specs.Messages.{HasWord, segment_of};
-ghost use Rattle.cap_spec.specs.Pointers.{data_size, extent, list_words, middle, pointer_size};
+ghost use Rattle.cap_spec.specs.Pointers.{data_size, extent, kind, list_words, middle, pointer_size};
 ghost use Rattle.cap_spec.specs.Words.{signed_offset_of};
-ghost use Rattle.std.specs.Prelude.{◌+◌, ◌*◌, ◌≡◌, ◌≤◌, ◌↔◌, ◌==◌, ◌<◌, ◌^◌, ◌⊎◌, ◌+ℤ◌, IfErr, IfNone, IfOk, IfSome, IsTrue, List, if◌then◌else◌, length, pos, ℕ};
+ghost use Rattle.std.specs.Prelude.{◌+◌, ◌*◌, ◌≡◌, ◌≤◌, ◌==◌, ◌<◌, ◌^◌, ◌⊎◌, ◌+ℤ◌, IfErr, IfNone, IfOk, IfSome, List, if◌then◌else◌, length, pos, ℕ};
 
 use crate::forms::{code, data_size, kind, list_size, middle, pointer_size};
-use crate::shapes::{Shape, Target, plain_shape, start_of};
+use crate::shapes::{Shape, Target, is_structs, plain_shape, start_of};
+use cap_frame::Segments;
 use cap_spec::Reason;
 
 /// The words of an object that its pointer word alone describes. Its pointers, if it has any, are
@@ -189,12 +190,29 @@ pub fn structs_target(
     })
 }
 
-/// A word is of a list of structs.
+/// The list of structs that this word and the list's tag describe (encoding: Lists). The word is the
+/// pointer word or, after a landing pad, the word that gives its sizes. It is at this place. `pads` is
+/// the number of words of the landing pad. `None` if the word or the tag describes none: [`crate::follow`] then says where the pointer leads.
 #[inline(always)]
-pub(crate) fn is_structs(word: u64) -> bool
-    ensures { IsTrue result ↔ IsComposite word }
+pub fn struct_list<M: Segments>(
+    message: &M,
+    pads: u8,
+    segment: u32,
+    at: u32,
+    word: u64,
+) -> Option<Target>
+    requires exists { segment < length (M.segments message.now) }
+    requires pads { pads ≤ 2 }
+    ensures list { IfSome result (λ _. kind word ≡ 1) }
+    ensures over { IfSome result (λ x. x.pads ≡ pads) }
+    ensures found { let m = M.segments message.now in (s w : ℕ) →
+        ResolvesTo m s w pads segment at word → IfSome result (FindsTarget m s w) }
 {
-    kind(word) == 1 && code(word) == 7
+    let start = tag_at(word, at, message.len(segment))?;
+    match structs_target(word, message.word(segment, start), segment, start, pads) {
+        Ok(list) => Some(list),
+        Err(_) => None,
+    }
 }
 
 /// How many words the elements take that a tag gives (encoding: Lists).

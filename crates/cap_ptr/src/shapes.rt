@@ -1,18 +1,15 @@
 //! What following a pointer word gives: an object's sizes and shape, whether it lies inside its
 //! segment, and what it is charged.
 
-ghost use Rattle.cap_ptr.specs.Reaching.{LeadsTo};
-ghost use Rattle.cap_ptr.specs.Shapes.{IsAnswer, IsPlain, IsShape};
+ghost use Rattle.cap_ptr.specs.Levels.{levels_of};
+ghost use Rattle.cap_ptr.specs.Shapes.{IsPlain, IsShape, is_structs};
+ghost use Rattle.cap_spec.specs.Denoting.{element_levels};
 ghost use Rattle.cap_spec.specs.Following.{IsComposite, extra};
-ghost use Rattle.cap_spec.specs.Messages.{segment_of};
-ghost use Rattle.cap_spec.specs.Pointers.{element_bits, extent, kind, list_words};
+ghost use Rattle.cap_spec.specs.Pointers.{element_bits, extent, list_words};
 ghost use Rattle.cap_spec.specs.Words.{signed_offset_of};
-ghost use Rattle.std.specs.Prelude.{◌+◌, ◌<◌, ◌^◌, ◌≡◌, ◌≤◌, ◌+ℤ◌, ◌<ℤ◌, IfNone, IfSome, length, pos, ℕ};
+ghost use Rattle.std.specs.Prelude.{◌+◌, ◌<◌, ◌^◌, ◌≡◌, ◌≤◌, ◌↔◌, ◌+ℤ◌, ◌<ℤ◌, IfNone, IfSome, IsTrue, pos, ℕ};
 
 use crate::forms::{code, data_size, kind, list_size, pointer_size};
-use crate::near::{is_structs, structs_target};
-use cap_frame::Segments;
-use cap_spec::Reason;
 use cap_words::signed_offset;
 
 /// The sizes of an object (encoding: Structs, Lists).
@@ -104,6 +101,15 @@ impl Followed {
     }
 }
 
+/// Whether a pointer word is of a list of structs (encoding: Lists).
+#[inline(always)]
+pub fn is_structs(word: u64) -> bool
+    ensures value { result ≡ is_structs word }
+    ensures composite { IsTrue result ↔ IsComposite word }
+{
+    kind(word) == 1 && code(word) == 7
+}
+
 /// How many bits each element of a list of this code has: codes 0 to 5 are those of values, and
 /// the others count as 64 (encoding: Lists).
 #[inline(always)]
@@ -132,7 +138,7 @@ pub(crate) fn list_words(code: u8, size: u32) -> u32
 
 /// How many words the object of a struct or list pointer takes, with a tag.
 #[inline(always)]
-pub(crate) fn extent(word: u64) -> u32
+pub fn extent(word: u64) -> u32
     ensures value { result ≡ extent word }
     ensures few { result ≤ 2 ^ 29 }
 {
@@ -162,42 +168,7 @@ pub(crate) fn plain_shape(word: u64) -> Shape
     }
 }
 
-/// The target of the word `word`, which encodes its shape, from word `start` of a segment on.
-#[inline(always)]
-pub(crate) fn target_at<M: Segments>(
-    message: &M,
-    pads: u8,
-    segment: u32,
-    start: u64,
-    word: u64,
-) -> Result<Followed, Reason>
-    requires exists { segment < length (M.segments message.now) }
-    requires object { kind word < 2 }
-    requires pads { pads ≤ 2 }
-    requires near { start < 2 ^ 33 }
-    ensures { let m = M.segments message.now in (s w : ℕ) →
-        LeadsTo m s w pads segment start word → IsAnswer m s w result }
-{
-    let words = extent(word);
-    if start + u64::from(words) > u64::from(message.len(segment)) {
-        return Err(Reason::OutOfSegment);
-    }
-    let start = start as u32;
-    if is_structs(word) {
-        return composite(message, pads, segment, start, word);
-    }
-    let charge = u64::from(pads) + u64::from(words) + empty_elements(word);
-    Ok(Followed::Target(Target {
-        segment,
-        start,
-        words,
-        pads,
-        charge,
-        shape: plain_shape(word),
-    }))
-}
-
-// The word that the object of a struct or list pointer starts at, if it isn't negative.
+/// The word that the object of a struct or list pointer starts at, if it isn't negative.
 #[inline(always)]
 pub(crate) fn start_of(place: u32, word: u64) -> Option<u64>
     ensures some { IfSome result (λ start. pos start ≡ pos (place + 1) +ℤ signed_offset_of word) }
@@ -208,32 +179,8 @@ pub(crate) fn start_of(place: u32, word: u64) -> Option<u64>
     if start < 0 { None } else { Some(start as u64) }
 }
 
-// The target of the word `word` of a list of structs, whose words lie inside their segment.
-// It is inlined, since a call writes its result in pieces, and its caller waits for them.
-#[inline(always)]
-fn composite<M: Segments>(
-    message: &M,
-    pads: u8,
-    segment: u32,
-    start: u32,
-    word: u64,
-) -> Result<Followed, Reason>
-    requires exists { segment < length (M.segments message.now) }
-    requires composite { IsComposite word }
-    requires inside { start + extent word ≤ length (segment_of (M.segments message.now) segment) }
-    requires pads { pads ≤ 2 }
-    ensures { let m = M.segments message.now in (s w : ℕ) →
-        LeadsTo m s w pads segment start word → IsAnswer m s w result }
-{
-    let tag = message.word(segment, start);
-    match structs_target(word, tag, segment, start, pads) {
-        Ok(target) => Ok(Followed::Target(target)),
-        Err(reason) => Err(reason),
-    }
-}
-
-// How many elements of a list without a tag have no bits.
-fn empty_elements(word: u64) -> u64
+/// How many elements of a list without a tag have no bits.
+pub(crate) fn empty_elements(word: u64) -> u64
     requires { IsPlain word }
     ensures value { (tag : ℕ) → result ≡ extra word tag }
     ensures below { result < 2 ^ 29 }
@@ -242,5 +189,26 @@ fn empty_elements(word: u64) -> u64
         u64::from(list_size(word))
     } else {
         0
+    }
+}
+
+/// How many levels the structs of a list of `count` elements take below their list.
+#[inline(always)]
+pub fn levels_of_elements(count: u32) -> u32
+    ensures value { result ≡ element_levels count }
+    ensures few { result ≤ 1 }
+{
+    if count == 0 { 0 } else { 1 }
+}
+
+/// How many levels an object takes below its own.
+#[inline(always)]
+pub fn levels_taken(shape: &Shape) -> u32
+    ensures value { result ≡ levels_of shape.now }
+    ensures few { result ≤ 1 }
+{
+    match shape {
+        Shape::Structs { count, .. } => levels_of_elements(*count),
+        _ => 0,
     }
 }

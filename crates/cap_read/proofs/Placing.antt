@@ -5,10 +5,10 @@ use Rattle.cap_spec.proofs.ProofNames.{IfSome, List, MatchOption, None, Option, 
 use Rattle.cap_spec.proofs.ProofNames.{refl, subst, sym, ℕ, ◌+◌, ◌<◌, ◌∙◌, ◌≡◌, ◌≤◌, Denotes, words_from, to_object}
 use Rattle.cap_spec.proofs.ProofNames.{segment_of, HasPlace, IsPlace, ReachesSpot, Spot, element, word, plain_text, extent}
 use Rattle.cap_spec.proofs.ProofNames.{Own, own_of, DenotesAt, Tree, node_at}
-use Rattle.cap_vet.specs.Reports.{IsReport}
+use Rattle.cap_walk.specs.Reports.{IsReport}
 use Rattle.cap_vet.specs.Views.{bytes_of_place}
-use Rattle.cap_vet.specs.declared.nodes.place.Place.{Place}
-use Rattle.cap_vet.specs.declared.walk.vetting.Report.{Report}
+use Rattle.cap_ptr.specs.declared.place.Place.{Place}
+use Rattle.cap_walk.specs.declared.report.Report.{Report}
 use Rattle.cap_read.specs.ReadNodes.{IsPlaceInside, IsRead}
 
 -- nothing has a place where a path doesn't come to a spot,

@@ -4,9 +4,9 @@ use Rattle.cap_spec.specs.Paths.{IsPlace}
 use Rattle.cap_spec.specs.SpecNames.{Denotes, segment_of, Own, Tree, node_at}
 use Rattle.cap_spec.specs.Showing.{own_of}
 use Rattle.cap_spec.specs.declared.Step.{Step}
-use Rattle.cap_vet.specs.Reports.{IsReport}
-use Rattle.cap_vet.specs.declared.nodes.place.Place.{Place}
-use Rattle.cap_vet.specs.declared.walk.vetting.Report.{Report}
+use Rattle.cap_walk.specs.Reports.{IsReport}
+use Rattle.cap_ptr.specs.declared.place.Place.{Place}
+use Rattle.cap_walk.specs.declared.report.Report.{Report}
 
 -- the place of a path, inside its segment
 pub record IsPlaceInside (m : List (List ℕ)) (path : List Step) (p : Place) : Type 0 where

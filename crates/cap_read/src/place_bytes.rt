@@ -6,9 +6,9 @@ ghost use Rattle.cap_spec.specs.Faults.{IsRefused};
 ghost use Rattle.cap_spec.specs.Paths.{IsPlace};
 ghost use Rattle.cap_spec.specs.Plain.{plain_text};
 ghost use Rattle.cap_spec.specs.declared.Refusal.{Refusal};
-ghost use Rattle.cap_vet.specs.Limits.{depth_of, words_of};
-ghost use Rattle.cap_vet.specs.Reports.{IsAccepted};
-ghost use Rattle.cap_vet.specs.declared.walk.vetting.Report.{Report};
+ghost use Rattle.cap_walk.specs.Limits.{depth_of, words_of};
+ghost use Rattle.cap_walk.specs.Reports.{IsAccepted};
+ghost use Rattle.cap_walk.specs.declared.report.Report.{Report};
 ghost use Rattle.std.specs.Prelude.{◌≡◌, [], Err, IfErr, IfOk, IsOk, ℕ};
 
 use cap_frame::{ByteView, Segments};

@@ -7,7 +7,7 @@ use Rattle.cap_frame.specs.declared.fault.FrameFault.TheVariants.{Truncated}
 use Rattle.cap_text.specs.declared.fault.StreamBreak.{StreamBreak}
 use Rattle.cap_run.specs.Breaking.{BreaksBy, EndsCut}
 use Rattle.cap_run.specs.RunNames.{Cause, WritesOneOf, Counted}
-use Rattle.cap_words.specs.declared.ends.ByteOut as output
+use Rattle.cap_words.specs.declared.byte_io.ByteOut as output
 use Rattle.cap_words.specs.declared.sources.WordSource as source
 
 module _ {S : Type 0} (g : source.Ghosts S) where

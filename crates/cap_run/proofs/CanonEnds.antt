@@ -6,7 +6,7 @@ use Rattle.cap_spec.proofs.ProofNames.{Err, IfErr, IfOk, List, Ok, Result, Some,
 use Rattle.cap_spec.proofs.ProofNames.{sum, sym, ℕ, ◌++◌, ◌∙◌, ◌∷◌, ◌≡◌, ◌≤◌, length-map, AllByRecursion, HasCopy, Stream}
 use Rattle.cap_spec.proofs.ProofNames.{frame_text, sizes_of, rules}
 use Rattle.cap_frame.proofs.Converse.{same_some}
-use Rattle.cap_vet.specs.Demands.{words_under}
+use Rattle.cap_walk.specs.Demands.{words_under}
 use Rattle.cap_canon.proofs.Copies.{cap_no_copy}
 use Rattle.cap_text.specs.declared.fault.Cause.TheVariants.{Output, Refused, Memory as no_marks}
 use Rattle.cap_run.specs.Canons.{CanonStops}

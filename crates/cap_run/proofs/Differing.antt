@@ -8,7 +8,7 @@ use Rattle.cap_spec.proofs.ProofNames.{arith, inl, inr, most_depth, refl, rules,
 use Rattle.cap_spec.proofs.ProofNames.{ℕ, ◌++◌, ◌<◌, ◌∙◌, ◌≡◌, ◌≢◌, ◌↔◌}
 use Rattle.cap_difference.specs.Differences.{FirstDifference}
 use Rattle.cap_difference.specs.Reasons.{ObjectDiffers, PointerDiffers, bits_after, empty_list, empty_struct, in_object, is_capability}
-use Rattle.cap_difference.specs.Reasons.{is_far, pointers_place, rank, struct_null, struct_place, struct_zero, structs_null, structs_place}
+use Rattle.cap_difference.specs.Reasons.{is_far, pointers_place, difference_rank, struct_null, struct_place, struct_zero, structs_null, structs_place}
 use Rattle.cap_difference.specs.Reasons.{structs_zero, surplus, values_place}
 use Rattle.cap_difference.specs.declared.difference.Difference.{Difference}
 use Rattle.cap_difference.specs.declared.reason.DifferenceReason.{DifferenceReason}
@@ -34,32 +34,32 @@ use Rattle.cap_text.specs.declared.fault.Cause.{Cause}
 use Rattle.cap_text.specs.declared.fault.Cause.TheVariants.{Output}
 use Rattle.cap_run.specs.declared.engines.stream.Counted.{Counted}
 use Rattle.cap_run.specs.declared.engines.stream.Counted.TheVariants.{Accepted, NotCanonical, Refused}
-use Rattle.cap_words.specs.declared.ends.OutFault.{OutFault}
-use Rattle.cap_words.specs.declared.ends.ByteOut as output
+use Rattle.cap_words.specs.declared.byte_io.OutFault.{OutFault}
+use Rattle.cap_words.specs.declared.byte_io.ByteOut as output
 
 -- the reasons of pointers come before that of words after all objects
-object_rank : (m : List (List ℕ)) (end p t b q : ℕ) (what : Kind) (v : DifferenceReason) → ObjectDiffers m end p t b q what v → rank v < 10
-object_rank m end p t b q (Struct ds ps) v (empty_struct e h k) = let r = ap rank e in omega (arith, r)
-object_rank m end p t b q (Struct ds ps) v (struct_place e h k) = let r = ap rank e in omega (arith, r)
-object_rank m end p t b q (Struct ds ps) v (struct_zero e h) = let r = ap rank e in omega (arith, r)
-object_rank m end p t b q (Struct ds ps) v (struct_null e h) = let r = ap rank e in omega (arith, r)
-object_rank m end p t b q (Scalars c n) v (values_place e h) = let r = ap rank e in omega (arith, r)
-object_rank m end p t b q (Scalars c n) v (bits_after e h) = let r = ap rank e in omega (arith, r)
-object_rank m end p t b q (Pointers n) v (pointers_place e h) = let r = ap rank e in omega (arith, r)
-object_rank m end p t b q (Structs n ds ps) v (structs_place e h) = let r = ap rank e in omega (arith, r)
-object_rank m end p t b q (Structs n ds ps) v (empty_list e h k) = let r = ap rank e in omega (arith, r)
-object_rank m end p t b q (Structs n ds ps) v (surplus e h) = let r = ap rank e in omega (arith, r)
-object_rank m end p t b q (Structs n ds ps) v (structs_zero e h k) = let r = ap rank e in omega (arith, r)
-object_rank m end p t b q (Structs n ds ps) v (structs_null e h k) = let r = ap rank e in omega (arith, r)
+object_rank : (m : List (List ℕ)) (end p t b q : ℕ) (what : Kind) (v : DifferenceReason) → ObjectDiffers m end p t b q what v → difference_rank v < 10
+object_rank m end p t b q (Struct ds ps) v (empty_struct e h k) = let r = ap difference_rank e in omega (arith, r)
+object_rank m end p t b q (Struct ds ps) v (struct_place e h k) = let r = ap difference_rank e in omega (arith, r)
+object_rank m end p t b q (Struct ds ps) v (struct_zero e h) = let r = ap difference_rank e in omega (arith, r)
+object_rank m end p t b q (Struct ds ps) v (struct_null e h) = let r = ap difference_rank e in omega (arith, r)
+object_rank m end p t b q (Scalars c n) v (values_place e h) = let r = ap difference_rank e in omega (arith, r)
+object_rank m end p t b q (Scalars c n) v (bits_after e h) = let r = ap difference_rank e in omega (arith, r)
+object_rank m end p t b q (Pointers n) v (pointers_place e h) = let r = ap difference_rank e in omega (arith, r)
+object_rank m end p t b q (Structs n ds ps) v (structs_place e h) = let r = ap difference_rank e in omega (arith, r)
+object_rank m end p t b q (Structs n ds ps) v (empty_list e h k) = let r = ap difference_rank e in omega (arith, r)
+object_rank m end p t b q (Structs n ds ps) v (surplus e h) = let r = ap difference_rank e in omega (arith, r)
+object_rank m end p t b q (Structs n ds ps) v (structs_zero e h k) = let r = ap difference_rank e in omega (arith, r)
+object_rank m end p t b q (Structs n ds ps) v (structs_null e h k) = let r = ap difference_rank e in omega (arith, r)
 object_rank m end p t b q what v h = search rules
 
-pointer_rank : (m : List (List ℕ)) (s w end : ℕ) (v : DifferenceReason) → PointerDiffers m s w end v → rank v < 10
-pointer_rank m s w end v (is_far e p has far) = let r = ap rank e in omega (arith, r)
-pointer_rank m s w end v (is_capability e k i leads) = let r = ap rank e in omega (arith, r)
+pointer_rank : (m : List (List ℕ)) (s w end : ℕ) (v : DifferenceReason) → PointerDiffers m s w end v → difference_rank v < 10
+pointer_rank m s w end v (is_far e p has far) = let r = ap difference_rank e in omega (arith, r)
+pointer_rank m s w end v (is_capability e k i leads) = let r = ap difference_rank e in omega (arith, r)
 pointer_rank m s w end v (in_object p k t b q tag what has found h) = object_rank m end p t b q what v h
 
 -- so a pointer that differs has its number
-numbered_by : (v : DifferenceReason) (n : ℕ) → rank v < 10 → number_by v n ≡ n
+numbered_by : (v : DifferenceReason) (n : ℕ) → difference_rank v < 10 → number_by v n ≡ n
 numbered_by reason.Segments n h = refl
 numbered_by reason.Far n h = refl
 numbered_by reason.Capability n h = refl

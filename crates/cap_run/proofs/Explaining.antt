@@ -1,34 +1,27 @@
 -- The lines that explain a refusal, and those after the text of a message that meets the demands.
 use Rattle.cap_spec.specs.declared.Step.{Step}
-use Rattle.cap_spec.specs.declared.Refusal.{Refusal}
 use Rattle.cap_spec.specs.declared.StrictRefusal.{StrictRefusal}
-use Rattle.cap_spec.specs.declared.StrictRefusal.TheVariants.{Refused}
-use Rattle.cap_spec.proofs.ProofNames.{Bool, Err, List, None, Ok, Option, Some, [], ap, append-nil, codes, inr, refl, same_Some}
+use Rattle.cap_spec.proofs.ProofNames.{Bool, Err, List, None, Ok, Option, Some, [], ap, append-nil, codes, refl, same_Some}
 use Rattle.cap_spec.proofs.ProofNames.{subst, sym, true, ℕ, ◌++◌, ◌∙◌, ◌≡◌, IsWithin}
 use Rattle.cap_spec.proofs.ProofNames.{IsFirstOverlap, refused, strict_verdict, vet_text, rules}
-use Rattle.cap_vet.specs.VetNames.{IsDemandFault, words_under, depth_of, words_of}
-use Rattle.cap_vet.specs.declared.demands.Demands.{Demands}
-use Rattle.cap_vet.specs.declared.limits.Limits.{Limits}
-use Rattle.cap_explain.specs.Charges.{ChargeOf}
+use Rattle.cap_vet.specs.VetNames.{IsDemandFault}
 use Rattle.cap_explain.specs.Explaining.{overlap_explanation}
 use Rattle.cap_explain.specs.declared.numbers.MessageStart.{MessageStart}
-use Rattle.cap_explain.specs.declared.numbers.Numbers.{Numbers}
-use Rattle.cap_explain.proofs.Charges.{OnePath, charge_is}
+use Rattle.cap_explain.specs.FaultLines.{fault_lines, earlier_lines}
 use Rattle.cap_trace.specs.EarlierPointers.{FindsEarlier}
 use Rattle.cap_trace.specs.declared.earlier.EarlierPointer.{EarlierPointer}
-use Rattle.cap_trace.proofs.Named.{one_path}
 use Rattle.cap_text.proofs.Writing.{stopped_more}
 use Rattle.cap_text.specs.Lines.{filter_line}
 use Rattle.cap_text.specs.Writing.{Wrote}
 use Rattle.cap_text.specs.declared.fault.Cause.{Cause}
 use Rattle.cap_text.specs.declared.fault.Cause.TheVariants.{Output}
-use Rattle.cap_run.specs.Explained.{HasLinesAfter, IsOverlapText, RefusedByFilter, earlier_lines, fault_lines, fault_numbers}
+use Rattle.cap_run.specs.Explained.{HasLinesAfter, IsOverlapText, RefusedByFilter}
 use Rattle.cap_run.specs.Explained.{filter_demands, filter_lines, lines_after, start_after}
 use Rattle.cap_run.specs.Running.{WritesOneOf}
 use Rattle.cap_run.specs.declared.engines.stream.Counted.{Counted}
-use Rattle.cap_vet.specs.Reports.{IsAccepted}
-use Rattle.cap_vet.specs.declared.walk.vetting.Report.{Report}
-use Rattle.cap_words.specs.declared.ends.ByteOut as output
+use Rattle.cap_walk.specs.Reports.{IsAccepted}
+use Rattle.cap_walk.specs.declared.report.Report.{Report}
+use Rattle.cap_words.specs.declared.byte_io.ByteOut as output
 
 -- the text of an overlap, by the paths that were found
 pub overlap_text : (m : List (List ℕ)) (n : ℕ) (start : Option MessageStart) {s w pointers : ℕ} (f : IsFirstOverlap m s w pointers)
@@ -73,26 +66,13 @@ no_filter_lines m words depth start (Some fault) h e = absurd (search rules)
 pub some_filter_lines : (m : List (List ℕ)) (words depth : ℕ) (start : MessageStart) (r : Option StrictRefusal)
     (h : RefusedByFilter m words depth r) (fault : StrictRefusal) → r ≡ Some fault
     → (k : IsDemandFault filter_demands m words depth fault) × (filter_lines m words depth start r h
-    ≡ filter_line (strict_verdict fault) ++ fault_lines filter_demands m words depth fault k start)
+    ≡ filter_line (strict_verdict fault) ++ fault_lines true filter_demands m words depth fault k None (Some start))
 some_filter_lines m words depth start None h fault e = absurd (search rules)
 some_filter_lines m words depth start (Some own) h fault e =
     subst (λ (x : StrictRefusal). (k : IsDemandFault filter_demands m words depth x) × (filter_lines m words depth start (Some own) h
-    ≡ filter_line (strict_verdict x) ++ fault_lines filter_demands m words depth x k start)) (same_Some own fault e) (h, refl)
+    ≡ filter_line (strict_verdict x) ++ fault_lines true filter_demands m words depth x k None (Some start))) (same_Some own fault e) (h, refl)
 
 -- an accepted message is within the limits
 pub accepted_within : (m : List (List ℕ)) (words depth : ℕ) (report : Report) → IsAccepted m words depth report
     → IsWithin m words depth
 accepted_within m words depth report (t, a) = (t, report.charge, report.depth, a.within)
-
--- a refusal names one path
-one_path_of : (demands : Demands) (m : List (List ℕ)) (words depth : ℕ) (r : Refusal) → OnePath m (words_under demands m words) depth r
-one_path_of demands m words depth r k f = search (rules, one_path demands m words depth (Refused r) (inr k) (inr f))
-
--- the numbers of a fault
-pub same_numbers : (demands : Demands) (m : List (List ℕ)) (words depth : ℕ) (fault : StrictRefusal)
-    (h : IsDemandFault demands m words depth fault) (start : Option MessageStart) (within : Limits) (k : Numbers)
-    → words_of within ≡ words_under demands m words → depth_of within ≡ depth → k.words ≡ words_of within → k.depth ≡ depth_of within
-    → ChargeOf m (words_of within) (depth_of within) fault k.charge → k.has_table ≡ true → k.start ≡ start
-    → k ≡ fault_numbers demands m words depth fault h start
-same_numbers demands m words depth fault h start within k w d kw kd c t s =
-    search (rules, charge_is demands m words depth fault (one_path_of demands m words depth) h k.charge, one_path_of demands m words depth)

@@ -1,7 +1,7 @@
 -- Words that are read at once and handed to a sink.
 use Rattle.cap_spec.proofs.ProofNames.{List, OnSome, Some, [], false, length, length-append, refl, take}
 use Rattle.cap_spec.proofs.ProofNames.{true, ℕ, ◌+◌, ◌∷◌, ◌≡◌, ◌≤◌, ◌⊎◌, Keeps, plain_text, plain_words, rules}
-use Rattle.cap_words.specs.Ends.{Fails, WasBroken}
+use Rattle.cap_words.specs.ByteIo.{Fails, WasBroken}
 use Rattle.cap_words.specs.Sinks.{sink_fault_of}
 use Rattle.cap_words.specs.TakingMany.{TakesAll}
 use Rattle.cap_words.specs.declared.sources.SourceFault.{SourceFault}

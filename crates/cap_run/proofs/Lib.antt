@@ -10,11 +10,10 @@ pub mod FoundNodes
 pub mod Going
 pub mod Handed
 pub mod Handing
-pub mod Judging
+pub mod Printing
 pub mod LastLine
 pub mod Making
 pub mod Passing
-pub mod Placed
 pub mod Reasons
 pub mod Settling
 pub mod Sifting

@@ -10,7 +10,7 @@ use Rattle.cap_words.specs.Sinks.{Begins, sink_fault_of}
 use Rattle.cap_words.proofs.Known.{begins_kept}
 use Rattle.cap_frame.specs.Putting.{Blames, Halts}
 use Rattle.cap_frame.proofs.Putting.{blames_later}
-use Rattle.cap_vet.specs.Demands.{IsDemandFault}
+use Rattle.cap_walk.specs.Demands.{IsDemandFault}
 use Rattle.cap_canon.specs.CopyOvers.{ReportsOver, grown, has_capability, no_memory, over}
 use Rattle.cap_canon.proofs.Copies.{cap_no_copy, same_fault}
 use Rattle.cap_text.specs.declared.fault.Cause.TheVariants.{Output, Refused, Memory as no_marks}

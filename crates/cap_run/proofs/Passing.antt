@@ -7,14 +7,14 @@ use Rattle.cap_spec.proofs.ProofNames.{drop-cons, drop-drop, flat_map, if◌then
 use Rattle.cap_spec.proofs.ProofNames.{take_at, true, ℕ, ◌++◌, ◌+◌, ◌-◌, ◌<◌, ◌∙◌, ◌∷◌, ◌≡◌, ◌≤◌, take_rest}
 use Rattle.cap_spec.proofs.ProofNames.{Appends, joined, paired, segment_of, table_of, pack_text}
 use Rattle.cap_spec.proofs.ProofNames.{plain_text, plain_words, word_bytes, rules}
-use Rattle.cap_words.specs.Ends.{DeviceFails, AllocationFails, Works}
-use Rattle.cap_words.specs.declared.ends.OutFault.{OutFault}
-use Rattle.cap_words.specs.declared.ends.OutFault.TheVariants.{Device, Memory, Spent}
+use Rattle.cap_words.specs.ByteIo.{DeviceFails, AllocationFails, Works}
+use Rattle.cap_words.specs.declared.byte_io.OutFault.{OutFault}
+use Rattle.cap_words.specs.declared.byte_io.OutFault.TheVariants.{Device, Memory, Spent}
 use Rattle.cap_frame.specs.Numbers.{numbers_of, pair_at}
 use Rattle.cap_frame.proofs.Putting.{paired_from, segments_from}
 use Rattle.cap_text.specs.Writing.{Stopped, Writes, Wrote}
 use Rattle.cap_text.proofs.Writing.{stopped_more, writes_all, writes_then}
-use Rattle.cap_words.specs.declared.ends.ByteOut as output
+use Rattle.cap_words.specs.declared.byte_io.ByteOut as output
 
 module _ {O : Type 0} (g : output.Ghosts O) where
   -- the clauses of a call that writes all bytes after a text, put together, also where there are none

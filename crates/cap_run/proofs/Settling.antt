@@ -9,10 +9,11 @@ use Rattle.cap_frame.specs.ReadingFaults.{Answered, Faults}
 use Rattle.cap_frame.specs.declared.fault.FrameFault.{FrameFault}
 use Rattle.cap_frame.proofs.Converse.{known_still, same_some, reports_fault, settled as settled_by}
 use Rattle.cap_run.specs.RunNames.{Cause, TooManyMessages, RunFault, ReachesEnd, StopsEarly}
-use Rattle.cap_run.specs.RunNames.{Appended, RunStops, Settled, SettledAt, ReadsStream, Reports, ReportsEach, Reported}
+use Rattle.cap_run.specs.RunNames.{Appended, RunStops, Settled, SettledAt, ReadsStream, Reports, Reported}
+use Rattle.cap_run.specs.Reporting.{PlacedReports, ReportsAt}
 use Rattle.cap_run.specs.RunNames.{messages_of, outcome_of, texts_of, Outcome}
 use Rattle.cap_run.proofs.Reporting.{length-messages_of}
-use Rattle.cap_words.specs.declared.ends.ByteOut as output
+use Rattle.cap_words.specs.declared.byte_io.ByteOut as output
 use Rattle.cap_words.specs.declared.sources.WordSource as source
 
 -- a fault that can't have come says anything
@@ -84,26 +85,29 @@ module _ {S : Type 0} (gs : source.Ghosts S) (limit : ℕ) (old mid new : S) (re
       no_fault gs limit mid new front.0 front.2.0 fault P front.1 (cut.0 ∙ c) front.2.2
       (all_back (λ m. sum (sizes_of m) ≤ limit) read front.2.0 (subst (AllByRecursion (λ m. sum (sizes_of m) ≤ limit)) front.2.1 l)) stops
 
-module _ {S O : Type 0} (gs : source.Ghosts S) (go : output.Ghosts O) (reports_of : Reports) (limit most : ℕ) (old new : S) (before after : O) where
-  -- each of these messages was reported of, and the stream ended
-  abbrev pub ReportedEach : List (List (List ℕ)) → Result Outcome RunFault → Type 0
-  ReportedEach ms r = (ts : List Reported) × (messages_of ts ≡ ms) × ReportsEach reports_of 0 ts × Appended go before after (texts_of ts) × (r ≡ Ok (outcome_of ts))
-
+module _ {S O : Type 0} (gs : source.Ghosts S) (go : output.Ghosts O) (reports : Reports) (limit most : ℕ) (old new : S) (before after : O) where
   -- after some messages of the stream, no fault comes of the others
   pub settled_after : (allocates : List (List ℕ) → Type 0) (mid : S) (ts : List Reported) (own : List ℕ)
       (ms : List (List (List ℕ))) (cause : Cause) (P : Type 0) → gs.words old ≡ Some own → gs.is_cut old ≡ false
       → Stream own ms
       → AllByRecursion (λ m. sum (sizes_of m) ≤ limit) ms → length ms ≤ most
-      → ReadsStream gs limit old mid (messages_of ts) → RunStops gs go reports_of allocates limit most ts mid new before
+      → ReadsStream gs limit old mid (messages_of ts) → RunStops gs go reports allocates limit most ts mid new before
       after cause → SettledAt cause P
   settled_after allocates mid ts own ms TooManyMessages P w c s l few reads stops =
       absurd (none_over gs limit old mid new (messages_of ts) own ms stops.2.0 w s reads stops.2.1 (omega (arith, few, stops.0, length-messages_of ts)))
   settled_after allocates mid ts own ms cause P w c s l few reads stops = search (rules, none_faulted)
 
+module _ {S O : Type 0} (gs : source.Ghosts S) (go : output.Ghosts O) (counts : Bool) (reports : PlacedReports) (limit most : ℕ)
+    (old new : S) (before after : O) where
+  -- each of these messages was reported of, and the stream ended
+  abbrev pub ReportedEach : List (List (List ℕ)) → Result Outcome RunFault → Type 0
+  ReportedEach ms r = (ts : List Reported) × (messages_of ts ≡ ms) × ReportsAt counts reports 0 0 ts
+      × Appended go before after (texts_of ts) × (r ≡ Ok (outcome_of ts))
+
   -- a stream of messages within the limits is read to its end
   pub settled : (allocates : List (List ℕ) → Type 0) (r : Result Outcome RunFault) (own : List ℕ)
-      (ms : List (List (List ℕ))) → ReachesEnd gs go reports_of limit most old new before after r
-      → StopsEarly gs go reports_of limit most old new before after allocates r → gs.words old ≡ Some own
+      (ms : List (List (List ℕ))) → ReachesEnd gs go counts reports limit most old new before after r
+      → StopsEarly gs go counts reports limit most old new before after allocates r → gs.words old ≡ Some own
       → gs.is_cut old ≡ false → Stream own ms
       → AllByRecursion (λ m. sum (sizes_of m) ≤ limit) ms → length ms ≤ most → Settled r (ReportedEach ms r)
   settled allocates (Ok outcome) own ms end fault w c s l few =

@@ -6,8 +6,8 @@ use Rattle.cap_spec.proofs.ProofNames.{sym, true, ℕ, ◌++◌, ◌+◌, ◌<�
 use Rattle.cap_spec.proofs.ProofNames.{false≢true, AllByRecursion, Stream, sizes_of, rules}
 use Rattle.cap_frame.proofs.Converse.{same_some}
 use Rattle.cap_vet.specs.VetNames.{words_under, depth_of, words_of, IsAccepted}
-use Rattle.cap_vet.specs.declared.limits.Limits.{Limits}
-use Rattle.cap_vet.specs.declared.walk.vetting.Report.{Report}
+use Rattle.cap_walk.specs.declared.limits.Limits.{Limits}
+use Rattle.cap_walk.specs.declared.report.Report.{Report}
 use Rattle.cap_text.specs.Lines.{accepted_text}
 use Rattle.cap_text.specs.Writing.{Stopped, Wrote}
 use Rattle.cap_text.specs.declared.fault.Cause.TheVariants.{Output, Refused, Memory as no_marks}
@@ -15,7 +15,7 @@ use Rattle.cap_run.specs.Filtering.{AllAccepted, Covers, FiltersAll, FiltersUnti
 use Rattle.cap_run.specs.Filtering.{Noted, Notes, PassesLast, ReportsMet, AllocatesMet, frame_in}
 use Rattle.cap_run.specs.RunNames.{OutFault, Demands, Cause, Canon, Frame, NotStrict, TooManyMessages, RunFault}
 use Rattle.cap_run.specs.RunNames.{IsStrictUnder, OrFaultIn, AllocatesIn, PassesOn, ReadsUntil, ReportsIn, AllocatesInForm}
-use Rattle.cap_run.specs.RunNames.{Appended, RunStops, Settled, StopsIn, FindsObjection, SiftsNext, EndsStream}
+use Rattle.cap_run.specs.RunNames.{Appended, RunStops, Settled, StopsIn, FindsRejection, SiftsNext, EndsStream}
 use Rattle.cap_run.specs.RunNames.{ReadsStream, Reports, ReportsEach, Reported, messages_of, one_noncanonical, one_refused}
 use Rattle.cap_run.specs.RunNames.{outcome_of, texts_of, Counted, Accepted, Outcome}
 use Rattle.cap_run.specs.Sifting.{LogsMore, SiftStops, Sifts}
@@ -26,7 +26,7 @@ use Rattle.cap_run.proofs.Settling.{on_known, reads_front, settled_after}
 use Rattle.cap_run.proofs.Streams.{reads_all, reads_both, reads_none}
 use Rattle.cap_run.proofs.Reporting.{each-snoc, messages_of-snoc, noncanonical_in_le, outcome_of-snoc, refused_in_le}
 use Rattle.cap_run.proofs.Reporting.{texts_of-snoc}
-use Rattle.cap_words.specs.declared.ends.ByteOut as output
+use Rattle.cap_words.specs.declared.byte_io.ByteOut as output
 use Rattle.cap_words.specs.declared.sources.WordSource as source
 
 module _ {O : Type 0} (g : output.Ghosts O) where
@@ -49,11 +49,11 @@ module _ {O : Type 0} (g : output.Ghosts O) where
 
 module _ (form : FilterForm) (demands : Demands) (limits : Limits) (m : List (List ℕ)) where
   -- one that meets them is accepted
-  pub judges_met : (report : Report) → form.exclusive ≡ false → IsStrictUnder demands m (words_of limits) (depth_of limits)
+  pub finds_met : (report : Report) → form.exclusive ≡ false → IsStrictUnder demands m (words_of limits) (depth_of limits)
       → IsAccepted m (words_under demands m (words_of limits)) (depth_of limits) report
-      → FindsObjection (ReportsIn form demands limits) (AllocatesInForm form demands limits) m (Ok None)
-  judges_met report e strict accepted =
-      subst (λ (x : Bool). FindsObjection (OrFaultIn demands (ReportsMet x) limits) (AllocatesIn demands (AllocatesMet x) limits) m (Ok None)) (sym e)
+      → FindsRejection (ReportsIn form demands limits) (AllocatesInForm form demands limits) m (Ok None)
+  finds_met report e strict accepted =
+      subst (λ (x : Bool). FindsRejection (OrFaultIn demands (ReportsMet x) limits) (AllocatesIn demands (AllocatesMet x) limits) m (Ok None)) (sym e)
       (λ n. (accepted_text n report, inl (strict, record { report = report; is_accepted = accepted; line = refl; counts = refl })))
 
 module _ {O E : Type 0} (go : output.Ghosts O) (ge : output.Ghosts E) (pack : Bool) (verdict : Reports) (allocates : List (List ℕ) → Type 0) (n : ℕ)

@@ -3,7 +3,7 @@ use Rattle.cap_spec.proofs.Bytes.Lists.{all_append}
 use Rattle.cap_spec.proofs.Frames.Streams.{stream_append, stream_none, stream_one}
 use Rattle.cap_spec.proofs.ProofNames.{Bool, List, OnSome, Option, Some, [], append-nil, false, refl, subst, sum, sym}
 use Rattle.cap_spec.proofs.ProofNames.{ℕ, ◌++◌, ◌∷◌, ◌≡◌, ◌≤◌, Consumes, sizes_of, rules}
-use Rattle.cap_words.specs.Ends.{Works}
+use Rattle.cap_words.specs.ByteIo.{Works}
 use Rattle.cap_frame.specs.Reading.{TakesFrame}
 use Rattle.cap_frame.proofs.Taking.{takes_both, takes_none}
 use Rattle.cap_run.specs.Streams.{EndsStream, ReadsStream, ReadsToEnd}

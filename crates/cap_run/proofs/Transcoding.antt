@@ -3,7 +3,7 @@ use Rattle.std.proofs.KnownBytes.{Keeps-refl}
 use Rattle.cap_spec.proofs.ProofNames.{Err, List, Ok, OnSome, Result, [], append-nil, append_assoc, false}
 use Rattle.cap_spec.proofs.ProofNames.{inl, length-append, refl, true, ℕ, ◌++◌, ◌+◌, ◌<◌, ◌∷◌, ◌≡◌}
 use Rattle.cap_spec.proofs.ProofNames.{Keeps-trans, false≢true, Consumes, Keeps, rules}
-use Rattle.cap_words.specs.Ends.{DeviceFails, AllocationFails, WasBroken, Works}
+use Rattle.cap_words.specs.ByteIo.{DeviceFails, AllocationFails, WasBroken, Works}
 use Rattle.cap_words.specs.Sinks.{Begins, StoppedPutting, sink_fault_of}
 use Rattle.cap_words.specs.declared.sinks.SinkFault.TheVariants.{Device, Memory, Spent}
 use Rattle.cap_words.proofs.Known.{begins_kept}

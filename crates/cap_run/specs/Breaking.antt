@@ -11,10 +11,11 @@ use Rattle.cap_text.specs.declared.fault.Cause.TheVariants.{Memory as no_marks}
 use Rattle.cap_text.specs.declared.fault.ExplainedFault.{ExplainedFault}
 use Rattle.cap_text.specs.declared.fault.RunFault.{RunFault}
 use Rattle.cap_text.specs.declared.fault.StreamBreak.{StreamBreak}
-use Rattle.cap_run.specs.Placed.{PlacedReports, ReportsPlaced}
+use Rattle.cap_run.specs.Engines.{ReportsPlaced}
+use Rattle.cap_run.specs.Reporting.{PlacedReports}
 use Rattle.cap_run.specs.Streams.{ReadsStream}
 use Rattle.cap_run.specs.declared.settings.Outcome.{Outcome}
-use Rattle.cap_words.specs.declared.ends.ByteOut as output
+use Rattle.cap_words.specs.declared.byte_io.ByteOut as output
 use Rattle.cap_words.specs.declared.sources.WordSource as source
 
 -- whether the input ends inside a word, if it ends inside a message and its words are known
@@ -52,10 +53,14 @@ module _ {S : Type 0} (gs : source.Ghosts S) where
   BreaksBy packed limit old no_marks at = ⊤
 
   -- The source was `mid` after the messages before the one at which the stream breaks off.
+  abbrev pub BreaksAfter : Bool → ℕ → S → RunFault → StreamBreak → Type 0
+  BreaksAfter packed limit old fault at = (ms : List (List (List ℕ))) × (mid : S)
+      × (length ms ≡ fault.message) × ReadsStream gs limit old mid ms
+      × BreaksBy packed limit mid fault.cause at
+
+  -- the same of an answer
   abbrev pub BreaksOff : Bool → ℕ → S → Result Outcome ExplainedFault → Type 0
-  BreaksOff packed limit old answer = IfErr answer (λ e. (ms : List (List (List ℕ))) × (mid : S)
-      × (length ms ≡ e.fault.message) × ReadsStream gs limit old mid ms
-      × BreaksBy packed limit mid e.fault.cause e.at)
+  BreaksOff packed limit old answer = IfErr answer (λ e. BreaksAfter packed limit old e.fault e.at)
 
 module _ {S O : Type 0} (gs : source.Ghosts S) (go : output.Ghosts O) where
   -- What an engine does that explains: it writes a text of each message, and says what is known of

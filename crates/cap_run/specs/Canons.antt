@@ -1,5 +1,6 @@
 -- What the engine `run_canon` does, which puts canonical copies of the messages of a stream
 -- (profile). gs and gk have the members of the source's and of the sink's type.
+use Rattle.cap_walk.specs.Demands.{no_demands}
 use Rattle.std.specs.List.{AllByRecursion}
 use Rattle.std.specs.Prelude.{Err, IfErr, IfOk, List, Ok, Result, Some, [], false, flat_map, length, map, sum, ℕ, ◌++◌}
 use Rattle.std.specs.Prelude.{◌<◌, ◌∷◌, ◌≡◌, ◌≤◌, ◌⊎◌}
@@ -8,16 +9,16 @@ use Rattle.cap_spec.specs.declared.CanonFault.{CanonFault}
 use Rattle.cap_spec.specs.declared.CanonFault.TheVariants.{HasCapability, Memory}
 use Rattle.cap_spec.specs.declared.StrictRefusal.TheVariants.{Refused as bad}
 use Rattle.cap_words.specs.Sinks.{sink_fault_of}
-use Rattle.cap_words.specs.declared.ends.OutFault.{OutFault}
+use Rattle.cap_words.specs.declared.byte_io.OutFault.{OutFault}
 use Rattle.cap_frame.specs.FrameNames.{Halts, Faults}
 use Rattle.cap_vet.specs.VetNames.{IsDemandFault, words_under, IsAccepted}
-use Rattle.cap_vet.specs.declared.demands.Demands.{Demands}
-use Rattle.cap_vet.specs.declared.walk.vetting.Report.{Report}
+use Rattle.cap_walk.specs.declared.demands.Demands.{Demands}
+use Rattle.cap_walk.specs.declared.report.Report.{Report}
 use Rattle.cap_text.specs.declared.fault.Cause.{Cause}
 use Rattle.cap_text.specs.declared.fault.Cause.TheVariants.{Canon, Frame, NotStrict, Output, Refused, TooManyMessages}
 use Rattle.cap_text.specs.declared.fault.Cause.TheVariants.{Memory as no_marks}
 use Rattle.cap_text.specs.declared.fault.RunFault.{RunFault}
-use Rattle.cap_run.specs.Demanding.{IsNotStrict, IsStrictUnder, no_demands}
+use Rattle.cap_run.specs.Demanding.{IsNotStrict, IsStrictUnder}
 use Rattle.cap_run.specs.Running.{Settled}
 use Rattle.cap_run.specs.Streams.{EndsStream, ReadsStream, ReadsToEnd}
 use Rattle.cap_run.specs.Transcoding.{Finishes, Spoils}

@@ -2,8 +2,8 @@
 use Rattle.std.specs.Prelude.{Bool, IsTrue, List, if◌then◌else◌, ℕ, ◌↔◌, ◌≡◌}
 use Rattle.cap_spec.specs.Copies.{IsCanonical}
 use Rattle.cap_spec.specs.Texts.{check_text}
-use Rattle.cap_vet.specs.Reports.{IsAccepted}
-use Rattle.cap_vet.specs.declared.walk.vetting.Report.{Report}
+use Rattle.cap_walk.specs.Reports.{IsAccepted}
+use Rattle.cap_walk.specs.declared.report.Report.{Report}
 use Rattle.cap_run.specs.declared.engines.stream.Counted.{Counted}
 use Rattle.cap_run.specs.declared.engines.stream.Counted.TheVariants.{Accepted, NotCanonical}
 

@@ -2,7 +2,7 @@
 -- output, and what the result is if the words are known. gs, go and gk have the members of their
 -- types.
 use Rattle.std.specs.List.{AllByRecursion}
-use Rattle.std.specs.Prelude.{Err, IfErr, IfOk, IsErrOf, List, Ok, Result, Some, [], drop, false, length, sum, take}
+use Rattle.std.specs.Prelude.{Bool, Err, IfErr, IfOk, IsErrOf, List, Ok, Result, Some, [], drop, false, length, sum, take}
 use Rattle.std.specs.Prelude.{true, ℕ, ◌-◌, ◌<◌, ◌^◌, ◌∷◌, ◌≡◌, ◌≤◌}
 use Rattle.cap_spec.specs.Frames.{Stream, sizes_of}
 use Rattle.cap_words.specs.declared.sources.SourceFault.TheVariants.{Truncated}
@@ -13,10 +13,10 @@ use Rattle.cap_text.specs.declared.fault.CopyFault.TheVariants.{Source, TooManyW
 use Rattle.cap_text.specs.declared.fault.RunFault.{RunFault}
 use Rattle.cap_run.specs.Running.{Appended, RunStops, Settled}
 use Rattle.cap_run.specs.Streams.{ReadsStream, ReadsToEnd}
-use Rattle.cap_run.specs.Reporting.{Reports, ReportsEach, ReportsSegments, Reported, AllocatesNone, messages_of, outcome_of, texts_of}
+use Rattle.cap_run.specs.Reporting.{PlacedReports, Reports, ReportsAt, ReportsSegments, Reported, AllocatesNone, messages_of, outcome_of, texts_of, framed_words}
 use Rattle.cap_run.specs.Transcoding.{Finishes, TranscodeSettled, Transcoded}
 use Rattle.cap_run.specs.declared.settings.Outcome.{Outcome}
-use Rattle.cap_words.specs.declared.ends.ByteOut as output
+use Rattle.cap_words.specs.declared.byte_io.ByteOut as output
 use Rattle.cap_words.specs.declared.sinks.WordSink as sink
 use Rattle.cap_words.specs.declared.sources.WordSource as source
 
@@ -36,12 +36,12 @@ most_unpacked_at_once = 1024
 abbrev pub most_messages : ℕ
 most_messages = 2 ^ 32 - 1
 
-module _ {S O : Type 0} (gs : source.Ghosts S) (go : output.Ghosts O) (reports : Reports)
-    (limit most : ℕ) (old new : S) (before after : O) where
+module _ {S O : Type 0} (gs : source.Ghosts S) (go : output.Ghosts O) (counts : Bool)
+    (reports : PlacedReports) (limit most : ℕ) (old new : S) (before after : O) where
   -- All words of the source are frames of these messages, and the text of each was written.
   abbrev pub ReachesEnd : Result Outcome RunFault → Type 0
   ReachesEnd answer = IfOk answer (λ outcome. (ts : List Reported)
-      × ReadsToEnd gs limit old new (messages_of ts) × ReportsEach reports 0 ts
+      × ReadsToEnd gs limit old new (messages_of ts) × ReportsAt counts reports 0 0 ts
       × Appended go before after (texts_of ts)
       × (length ts ≤ most) × (outcome ≡ outcome_of ts))
 
@@ -49,24 +49,35 @@ module _ {S O : Type 0} (gs : source.Ghosts S) (go : output.Ghosts O) (reports :
   abbrev pub StopsEarly : (List (List ℕ) → Type 0) → Result Outcome RunFault → Type 0
   StopsEarly allocates answer = IfErr answer (λ fault. (ts : List Reported) × (mid : S)
       × (fault.message ≡ length ts) × (length ts ≤ most)
-      × ReadsStream gs limit old mid (messages_of ts) × ReportsEach reports 0 ts
-      × RunStops gs go reports allocates limit most ts mid new before after fault.cause)
+      × ReadsStream gs limit old mid (messages_of ts) × ReportsAt counts reports 0 0 ts
+      × RunStops gs go (reports (framed_words counts ts)) allocates limit most ts mid new before after fault.cause)
 
 module _ {S O : Type 0} (gs : source.Ghosts S) (go : output.Ghosts O) where
   -- What an engine does over at most `most` messages, each of at most `limit` words: it writes a
-  -- text of each. A message in `allocates` may need an allocation after it was read.
-  pub record ReportsStream (reports : Reports) (allocates : List (List ℕ) → Type 0) (limit most : ℕ)
-      (old new : S) (before after : O) (answer : Result Outcome RunFault) : Type 0 where
-    pub ok : ReachesEnd gs go reports limit most old new before after answer
-    pub err : StopsEarly gs go reports limit most old new before after allocates answer
+  -- text of each. The text may depend on the words before the message, if they are counted. A message in
+  -- `allocates` may need an allocation after it was read.
+  pub record ReportsAll (counts : Bool) (reports : PlacedReports) (allocates : List (List ℕ) → Type 0)
+      (limit most : ℕ) (old new : S) (before after : O) (answer : Result Outcome RunFault) : Type 0 where
+    pub ok : ReachesEnd gs go counts reports limit most old new before after answer
+    pub err : StopsEarly gs go counts reports limit most old new before after allocates answer
     -- And the other way round: a stream of at most `most` messages, each within the limit, is read
     -- to its end.
     pub whole : (own : List ℕ) (ms : List (List (List ℕ))) → gs.words old ≡ Some own
         → gs.is_cut old ≡ false → Stream own ms
         → AllByRecursion (λ m. sum (sizes_of m) ≤ limit) ms → length ms ≤ most →
-        Settled answer ((ts : List Reported) × (messages_of ts ≡ ms) × ReportsEach reports 0 ts
+        Settled answer ((ts : List Reported) × (messages_of ts ≡ ms) × ReportsAt counts reports 0 0 ts
         × Appended go before after (texts_of ts)
         × (answer ≡ Ok (outcome_of ts)))
+
+  -- where a text doesn't depend on the words before its message
+  abbrev pub ReportsStream : Reports → (List (List ℕ) → Type 0) → ℕ → ℕ → S → S → O → O
+      → Result Outcome RunFault → Type 0
+  ReportsStream reports = ReportsAll false (λ before. reports)
+
+  -- where it does
+  abbrev pub ReportsPlaced : PlacedReports → (List (List ℕ) → Type 0) → ℕ → ℕ → S → S → O → O
+      → Result Outcome RunFault → Type 0
+  ReportsPlaced reports = ReportsAll true reports
 
   -- What the engine `run_segments` does, which writes the segments of each message. Reading
   -- allocates nothing.

@@ -1,24 +1,22 @@
 -- What may be written of a message whose refusal is explained (profile).
 use Rattle.std.specs.Prelude.{Bool, List, None, Option, Some, [], codes, true, ℕ, ◌*◌, ◌++◌, ◌≡◌, ◌⊎◌}
-use Rattle.cap_spec.specs.SpecNames.{IsDisjoint, IsFirstOverlap, refused, strict_verdict, vet_text}
+use Rattle.cap_spec.specs.SpecNames.{IsFirstOverlap, refused, strict_verdict, vet_text}
 use Rattle.cap_spec.specs.declared.Step.{Step}
 use Rattle.cap_spec.specs.declared.StrictRefusal.{StrictRefusal}
 use Rattle.cap_vet.specs.VetNames.{IsDemandFault, Meets, words_under, depth_of, words_of, IsAccepted}
-use Rattle.cap_vet.specs.declared.demands.Demands.{Demands}
-use Rattle.cap_vet.specs.declared.limits.Limits.{Limits}
-use Rattle.cap_vet.specs.declared.walk.vetting.Report.{Report}
-use Rattle.cap_explain.specs.Charges.{fault_charge}
-use Rattle.cap_explain.specs.Explaining.{earlier_explanation, explanation, overlap_explanation}
+use Rattle.cap_walk.specs.declared.demands.Demands.{Demands}
+use Rattle.cap_walk.specs.declared.limits.Limits.{Limits}
+use Rattle.cap_walk.specs.declared.report.Report.{Report}
+use Rattle.cap_explain.specs.Cycles.{IsFaultCycle}
+use Rattle.cap_explain.specs.Explaining.{earlier_explanation, overlap_explanation}
 use Rattle.cap_explain.specs.declared.numbers.MessageStart.{MessageStart}
-use Rattle.cap_explain.specs.declared.numbers.Numbers.{Numbers}
+use Rattle.cap_explain.specs.FaultLines.{fault_lines, earlier_lines}
 use Rattle.cap_trace.specs.EarlierPointers.{IsEarlierOf, earlier_path}
-use Rattle.cap_trace.specs.NamedPaths.{fault_path}
 use Rattle.cap_trace.specs.declared.earlier.EarlierPointer.{EarlierPointer}
 use Rattle.cap_text.specs.Lines.{filter_line}
-use Rattle.cap_run.specs.Demanding.{IsStrictUnder}
+use Rattle.cap_run.specs.Demanding.{IsStrictUnder, OrOverlap}
 use Rattle.cap_run.specs.Differing.{OrDifference}
-use Rattle.cap_run.specs.Placed.{PlacedReports}
-use Rattle.cap_run.specs.Reporting.{Reports}
+use Rattle.cap_run.specs.Reporting.{PlacedReports, Reports}
 use Rattle.cap_run.specs.Vetting.{ReportsAccepted}
 use Rattle.cap_run.specs.declared.engines.stream.Counted.{Counted}
 use Rattle.cap_run.specs.declared.engines.stream.Counted.TheVariants.{Accepted, NotCanonical, Refused}
@@ -27,33 +25,17 @@ use Rattle.cap_run.specs.declared.engines.stream.Counted.TheVariants.{Accepted, 
 abbrev pub start_after : Bool → ℕ → MessageStart
 start_after packed before = record { byte = 8 * before; packed = packed }
 
--- the limits of a message that doesn't meet the demands, its charge up to the pointer that is named,
--- and where it begins
-abbrev pub fault_numbers : (demands : Demands) (m : List (List ℕ)) (words depth : ℕ) (fault : StrictRefusal)
-    → IsDemandFault demands m words depth fault → Option MessageStart → Numbers
-fault_numbers demands m words depth fault h start = record {
-  words = words_under demands m words;
-  depth = depth;
-  charge = fault_charge demands m words depth fault h;
-  has_table = true;
-  start = start;
-}
-
--- the lines that explain why a message that begins there doesn't meet the demands, the path first
-abbrev pub fault_lines : (demands : Demands) (m : List (List ℕ)) (words depth : ℕ) (fault : StrictRefusal)
-    → IsDemandFault demands m words depth fault → MessageStart → List ℕ
-fault_lines demands m words depth fault h start =
-    explanation (fault_path demands m words depth fault h) m fault
-    (fault_numbers demands m words depth fault h (Some start))
-
--- The line of message n if it doesn't meet the demands, and the lines that explain the first reason.
--- This number of words of the input is before the message.
+-- The line of message n if it doesn't meet the demands, and the lines that explain the first reason. One
+-- says that the path returns to the pointer word, exactly if the depth limit is passed there and it does. This
+-- number of words of the input is before the message.
 pub record ReportsFaultLines (packed : Bool) (demands : Demands) (words depth before n : ℕ) (m : List (List ℕ))
     (text : List ℕ) (counted : Counted) : Type 0 where
   pub fault : StrictRefusal
   pub is_fault : IsDemandFault demands m words depth fault
+  pub cycle : Option ℕ
+  pub is_cycle : IsFaultCycle demands m words depth fault is_fault cycle
   pub lines : text ≡ vet_text n (strict_verdict fault)
-      ++ fault_lines demands m words depth fault is_fault (start_after packed before)
+      ++ fault_lines true demands m words depth fault is_fault cycle (Some (start_after packed before))
   pub counts : counted ≡ Refused
 
 -- what filter, the guard and the libraries demand of a message
@@ -65,12 +47,13 @@ abbrev pub RefusedByFilter : List (List ℕ) → ℕ → ℕ → Option StrictRe
 RefusedByFilter m words depth None = Meets filter_demands m words depth
 RefusedByFilter m words depth (Some fault) = IsDemandFault filter_demands m words depth fault
 
--- the line that they refuse a message that begins there, and the lines that explain it, or nothing
+-- the line that they refuse a message that begins there, and the lines that explain it, or nothing. An
+-- accepted message is within the depth limit, so there is no cycle.
 abbrev pub filter_lines : (m : List (List ℕ)) (words depth : ℕ) (start : MessageStart)
     (refusal : Option StrictRefusal) → RefusedByFilter m words depth refusal → List ℕ
 filter_lines m words depth start None h = []
 filter_lines m words depth start (Some fault) h =
-    filter_line (strict_verdict fault) ++ fault_lines filter_demands m words depth fault h start
+    filter_line (strict_verdict fault) ++ fault_lines true filter_demands m words depth fault h None (Some start)
 
 -- what comes after the text of a message, by what is counted of it: those lines if it is accepted
 abbrev pub lines_after : (m : List (List ℕ)) (words depth : ℕ) (start : MessageStart)
@@ -103,11 +86,6 @@ abbrev pub OrFaultLinesIn : Bool → Bool → Demands → (ℕ → ℕ → ℕ �
 OrFaultLinesIn packed canonical demands reports limits =
     OrFaultLines packed canonical demands reports (words_of limits) (depth_of limits)
 
--- the line of the first pointer that uses a word which an overlap's pointer uses too, if there is one
-abbrev pub earlier_lines : Option (List Step) → Option EarlierPointer → List ℕ
-earlier_lines path None = []
-earlier_lines path (Some e) = earlier_explanation path e.segment e.word
-
 -- The line of message n, which begins there in the input, if this is the first pointer that
 -- overlaps: the lines that explain it, and that of the first pointer that uses such a word.
 abbrev pub IsOverlapText : (m : List (List ℕ)) (n : ℕ) (start : Option MessageStart) {s w pointers : ℕ}
@@ -132,10 +110,8 @@ pub record ReportsOverlapLines (packed : Bool) (before words depth n : ℕ) (m :
   pub counts : counted ≡ Refused
 
 -- the text of a message that is accepted: it uses no word twice, or the first overlap is explained
-abbrev pub ReportsMarkedLines : Bool → ℕ → ℕ → ℕ → Reports
-ReportsMarkedLines packed before words depth n m text counted =
-    (IsDisjoint m × ReportsAccepted words depth n m text counted)
-    ⊎ ReportsOverlapLines packed before words depth n m text counted
+abbrev pub ReportsExclusivenessLines : Bool → ℕ → ℕ → ℕ → Reports
+ReportsExclusivenessLines packed before = OrOverlap (ReportsOverlapLines packed before) ReportsAccepted
 
 -- the text of `explain` over an input that is packed or not, with `--canonical` or without it
 abbrev pub ReportsExplainedUnder : Bool → Bool → Demands → ℕ → ℕ → PlacedReports
@@ -143,4 +119,4 @@ ReportsExplainedUnder packed canonical demands = OrFaultLines packed canonical d
 
 -- the text of `explain --exclusive`
 abbrev pub ReportsExplainedExclusiveUnder : Bool → Bool → Demands → ℕ → ℕ → PlacedReports
-ReportsExplainedExclusiveUnder packed canonical demands = OrFaultLines packed canonical demands (ReportsMarkedLines packed)
+ReportsExplainedExclusiveUnder packed canonical demands = OrFaultLines packed canonical demands (ReportsExclusivenessLines packed)

@@ -4,12 +4,12 @@ use Rattle.std.specs.List.{AllByRecursion}
 use Rattle.std.specs.Prelude.{Bool, IfErr, IfOk, IsTrue, List, Ok, Result, Some, [], false, length, sum, true, ℕ, ◌++◌}
 use Rattle.std.specs.Prelude.{◌∷◌, ◌≡◌, ◌≤◌, ◌⊎◌}
 use Rattle.cap_spec.specs.SpecNames.{Stream, frame_text, sizes_of, packed_frame, plain_text}
-use Rattle.cap_words.specs.declared.ends.OutFault.{OutFault}
+use Rattle.cap_words.specs.declared.byte_io.OutFault.{OutFault}
 use Rattle.cap_frame.specs.Limit.{limit_of}
-use Rattle.cap_vet.specs.declared.demands.Demands.{Demands}
-use Rattle.cap_vet.specs.declared.limits.Limits.{Limits}
+use Rattle.cap_walk.specs.declared.demands.Demands.{Demands}
+use Rattle.cap_walk.specs.declared.limits.Limits.{Limits}
 use Rattle.cap_text.specs.declared.fault.RunFault.{RunFault}
-use Rattle.cap_run.specs.Demanding.{OrFaultIn, ReportsMarked, AllocatesIn}
+use Rattle.cap_run.specs.Demanding.{OrFaultIn, ReportsExclusiveness, AllocatesIn}
 use Rattle.cap_run.specs.Running.{Appended, RunStops, Settled, StopsIn}
 use Rattle.cap_run.specs.Streams.{ReadsStream, ReadsToEnd}
 use Rattle.cap_run.specs.Reporting.{Reports, ReportsEach, Reported, AllocatesNone, messages_of, outcome_of, texts_of}
@@ -19,13 +19,13 @@ use Rattle.cap_run.specs.declared.engines.stream.Counted.TheVariants.{Accepted, 
 use Rattle.cap_run.specs.declared.settings.FilterForm.{FilterForm}
 use Rattle.cap_run.specs.declared.settings.Outcome.{Outcome}
 use Rattle.cap_run.specs.declared.settings.Settings.{Settings}
-use Rattle.cap_words.specs.declared.ends.ByteOut as output
+use Rattle.cap_words.specs.declared.byte_io.ByteOut as output
 use Rattle.cap_words.specs.declared.sources.WordSource as source
 
 -- the line of a message that meets the demands, as `vet` writes it, or `vet --exclusive`
 abbrev pub ReportsMet : Bool → ℕ → ℕ → Reports
 ReportsMet false = ReportsAccepted
-ReportsMet true = ReportsMarked
+ReportsMet true = ReportsExclusiveness
 
 -- which of these messages need an allocation after they were read: if it is exclusive, all
 abbrev pub AllocatesMet : Bool → ℕ → ℕ → List (List ℕ) → Type 0

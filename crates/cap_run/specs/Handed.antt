@@ -2,7 +2,7 @@
 -- members of the source's and of the sink's type.
 use Rattle.std.specs.Prelude.{List, length, ℕ, ◌<◌, ◌≤◌}
 use Rattle.cap_words.specs.Sinks.{sink_fault_of}
-use Rattle.cap_words.specs.declared.ends.OutFault.{OutFault}
+use Rattle.cap_words.specs.declared.byte_io.OutFault.{OutFault}
 use Rattle.cap_frame.specs.Putting.{Halts}
 use Rattle.cap_run.specs.Transcoding.{ReadsWords}
 use Rattle.cap_words.specs.declared.sources.WordSource as source

@@ -7,9 +7,9 @@ use Rattle.cap_spec.specs.Denoting.{Denotes}
 use Rattle.cap_spec.specs.Paths.{IsFirstCap}
 use Rattle.cap_spec.specs.Plain.{plain_text}
 use Rattle.cap_spec.specs.Tree.{Tree, has_cap}
-use Rattle.cap_vet.specs.Reports.{IsAccepted}
-use Rattle.cap_vet.specs.declared.demands.Demands.{Demands}
-use Rattle.cap_vet.specs.declared.walk.vetting.Report.{Report}
+use Rattle.cap_walk.specs.Reports.{IsAccepted}
+use Rattle.cap_walk.specs.declared.demands.Demands.{Demands}
+use Rattle.cap_walk.specs.declared.report.Report.{Report}
 use Rattle.cap_text.specs.HashLines.{digest_text, hash_text, no_form_text}
 use Rattle.cap_run.specs.Demanding.{AllocatesUnder, OrFault}
 use Rattle.cap_run.specs.Reporting.{Reports}

@@ -4,17 +4,17 @@ use Rattle.cap_spec.specs.Copies.{IsCanonical}
 use Rattle.cap_spec.specs.Denoting.{Denotes}
 use Rattle.cap_spec.specs.Canonical.{trim}
 use Rattle.cap_spec.specs.Paths.{IsFirstCap}
-use Rattle.cap_spec.specs.SpecNames.{IsDisjoint, IsFirstOverlap, strict_verdict}
+use Rattle.cap_spec.specs.SpecNames.{IsFirstOverlap, strict_verdict}
 use Rattle.cap_spec.specs.Texts.{accepted, refused}
 use Rattle.cap_spec.specs.Tree.{Tree, has_cap}
 use Rattle.cap_spec.specs.declared.StrictRefusal.{StrictRefusal}
-use Rattle.cap_vet.specs.VetNames.{IsDemandFault, depth_of, words_of, words_under}
-use Rattle.cap_vet.specs.Reports.{IsAccepted}
-use Rattle.cap_vet.specs.declared.demands.Demands.{Demands}
-use Rattle.cap_vet.specs.declared.limits.Limits.{Limits}
-use Rattle.cap_vet.specs.declared.walk.vetting.Report.{Report}
+use Rattle.cap_vet.specs.VetNames.{IsDemandFault, depth_of, words_of}
+use Rattle.cap_walk.specs.Reports.{IsAccepted}
+use Rattle.cap_walk.specs.declared.demands.Demands.{Demands}
+use Rattle.cap_walk.specs.declared.limits.Limits.{Limits}
+use Rattle.cap_walk.specs.declared.report.Report.{Report}
 use Rattle.cap_text.specs.JsonLines.{check_json, hash_json, no_form_json, verdict_json}
-use Rattle.cap_run.specs.Demanding.{IsStrictUnder}
+use Rattle.cap_run.specs.Demanding.{OrOverlap, OrRefused}
 use Rattle.cap_run.specs.Hashing.{hash_of}
 use Rattle.cap_run.specs.Reporting.{Reports}
 use Rattle.cap_run.specs.declared.engines.stream.Counted.{Counted}
@@ -41,10 +41,8 @@ pub record ReportsOverlapJson (words depth n : ℕ) (m : List (List ℕ)) (text 
   pub counts : counted ≡ Refused
 
 -- that of a message that is accepted: it uses no word twice, or with the first overlap
-abbrev pub ReportsMarkedJson : ℕ → ℕ → Reports
-ReportsMarkedJson words depth n m text counted =
-    (IsDisjoint m × ReportsAcceptedJson words depth n m text counted)
-    ⊎ ReportsOverlapJson words depth n m text counted
+abbrev pub ReportsExclusivenessJson : ℕ → ℕ → Reports
+ReportsExclusivenessJson = OrOverlap ReportsOverlapJson ReportsAcceptedJson
 
 -- if it is accepted, by whether its words are its own canonical copy
 pub record ReportsCheckedJson (words depth n : ℕ) (m : List (List ℕ)) (text : List ℕ)
@@ -95,7 +93,4 @@ pub record ReportsFaultJson (demands : Demands) (words depth n : ℕ) (m : List 
 
 -- an object of a message that meets the demands, or that one, under the limits of the charge and of the depth
 abbrev pub OrFaultJson : Demands → (ℕ → ℕ → Reports) → Limits → Reports
-OrFaultJson demands reports limits n m text counted =
-    (IsStrictUnder demands m (words_of limits) (depth_of limits)
-    × reports (words_under demands m (words_of limits)) (depth_of limits) n m text counted)
-    ⊎ ReportsFaultJson demands (words_of limits) (depth_of limits) n m text counted
+OrFaultJson demands reports limits = OrRefused demands ReportsFaultJson reports (words_of limits) (depth_of limits)

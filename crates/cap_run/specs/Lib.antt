@@ -3,8 +3,6 @@ pub mod Checking
 pub mod Transcoding
 pub mod Demanding
 pub mod Engines
-pub mod Placed
-pub mod PlacedSteps
 pub mod Differing
 pub mod Explained
 pub mod ExplainedJson
@@ -18,7 +16,7 @@ pub mod Making
 pub mod Peeking
 pub mod PuttingEnds
 pub mod Running
-pub mod Sieves
+pub mod FilterSteps
 pub mod Sifting
 pub mod Single
 pub mod Streams

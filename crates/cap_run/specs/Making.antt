@@ -7,8 +7,8 @@ use Rattle.cap_spec.specs.declared.StrictRefusal.TheVariants.{ManySegments, Poin
 use Rattle.cap_words.specs.Sinks.{sink_fault_of}
 use Rattle.cap_frame.specs.FrameNames.{Halts, Faults}
 use Rattle.cap_vet.specs.VetNames.{IsDemandFault, words_under, IsAccepted}
-use Rattle.cap_vet.specs.declared.demands.Demands.{Demands}
-use Rattle.cap_vet.specs.declared.walk.vetting.Report.{Report}
+use Rattle.cap_walk.specs.declared.demands.Demands.{Demands}
+use Rattle.cap_walk.specs.declared.report.Report.{Report}
 use Rattle.cap_text.specs.declared.fault.Cause.{Cause}
 use Rattle.cap_text.specs.declared.fault.Cause.TheVariants.{Canon, Frame, NotStrict, Output, Refused, TooManyMessages}
 use Rattle.cap_text.specs.declared.fault.Cause.TheVariants.{Memory as no_marks}

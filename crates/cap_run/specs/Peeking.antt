@@ -8,7 +8,7 @@ abbrev pub ShowsFrame : ℕ → List ℕ → Type 0
 ShowsFrame limit bytes = (m : List (List ℕ)) × (n : ℕ) × IsFront limit bytes m n
 
 -- These words begin with the frame of a message within the limit.
-pub record BeginsMessage (limit : ℕ) (words : List ℕ) : Type 0 where
+pub record BeginsWithFrame (limit : ℕ) (words : List ℕ) : Type 0 where
   pub message : List (List ℕ)
   pub own : List ℕ
   pub rest : List ℕ

@@ -1,7 +1,8 @@
 -- What was written for each message of a stream: a text, and what is counted of the message
 -- (profile).
-use Rattle.std.specs.Prelude.{List, [], flat_map, length, map, ℕ, ◌+◌, ◌∷◌, ◌≡◌}
+use Rattle.std.specs.Prelude.{Bool, List, [], false, flat_map, length, map, true, ℕ, ◌+◌, ◌∷◌, ◌≡◌}
 use Rattle.cap_spec.specs.Texts.{segments_text}
+use Rattle.cap_explain.specs.Leading.{frame_words}
 use Rattle.cap_run.specs.declared.engines.stream.Counted.{Counted}
 use Rattle.cap_run.specs.declared.engines.stream.Counted.TheVariants.{Accepted, NotCanonical, Refused}
 use Rattle.cap_run.specs.declared.settings.Outcome.{Outcome}
@@ -31,10 +32,38 @@ ReportsSegments n m text counted = (text ≡ segments_text n m) × (counted ≡ 
 abbrev pub AllocatesNone : List (List ℕ) → Type 0
 AllocatesNone m = ⊥
 
--- each text is one that may be written of its message by its number, from this number on
+-- the same, by the words of the stream before it too
+abbrev pub PlacedReports : Type 1
+PlacedReports = ℕ → Reports
+
+-- the words of a message's frame, or 0 where they aren't counted
+abbrev pub words_if : Bool → List (List ℕ) → ℕ
+words_if false m = 0
+words_if true m = frame_words m
+
+-- the words before a message, or 0 where they aren't counted
+abbrev pub place_if : Bool → ℕ → ℕ
+place_if false before = 0
+place_if true before = before
+
+-- the words of the frames of these messages, or 0
+abbrev pub framed_words : Bool → List Reported → ℕ
+framed_words counts [] = 0
+framed_words counts (t ∷ ts) = words_if counts t.message + framed_words counts ts
+
+-- each text is one that may be written of its message, from this word and this number on
+abbrev pub ReportsAt : Bool → PlacedReports → ℕ → ℕ → List Reported → Type 0
+ReportsAt counts reports before n [] = Unit {0}
+ReportsAt counts reports before n (t ∷ ts) = reports before n t.message t.text t.counted
+    × ReportsAt counts reports (before + words_if counts t.message) (n + 1) ts
+
+-- where a text depends on the words before its message
+abbrev pub ReportsFrom : PlacedReports → ℕ → ℕ → List Reported → Type 0
+ReportsFrom reports = ReportsAt true reports
+
+-- where it doesn't
 abbrev pub ReportsEach : Reports → ℕ → List Reported → Type 0
-ReportsEach reports n [] = Unit {0}
-ReportsEach reports n (t ∷ ts) = reports n t.message t.text t.counted × ReportsEach reports (n + 1) ts
+ReportsEach reports n ts = ReportsAt false (λ before. reports) 0 n ts
 
 -- one for a message that was refused
 abbrev pub one_refused : Counted → ℕ

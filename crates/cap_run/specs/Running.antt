@@ -1,11 +1,11 @@
 -- How an engine ends, by what it did to its source and its output (profile). gs and go have the
 -- members of their types.
 use Rattle.std.specs.Io.KnownBytes.{Appends}
-use Rattle.std.specs.Prelude.{Bool, Err, List, Ok, Result, [], length, true, ℕ, ◌++◌, ◌<◌, ◌∷◌, ◌≡◌}
+use Rattle.std.specs.Prelude.{Bool, Err, List, Ok, Result, [], length, true, ℕ, ◌++◌, ◌<◌, ◌^◌, ◌∷◌, ◌≡◌, ◌≤◌}
 use Rattle.cap_spec.specs.declared.CanonFault.TheVariants.{HasCapability, Memory as canon_memory}
-use Rattle.cap_words.specs.Ends.{DeviceFails, Failures, AllocationFails, WasBroken}
-use Rattle.cap_words.specs.declared.ends.OutFault.{OutFault}
-use Rattle.cap_words.specs.declared.ends.OutFault.TheVariants.{Device, Memory, Spent}
+use Rattle.cap_words.specs.ByteIo.{DeviceFails, Failures, AllocationFails, WasBroken}
+use Rattle.cap_words.specs.declared.byte_io.OutFault.{OutFault}
+use Rattle.cap_words.specs.declared.byte_io.OutFault.TheVariants.{Device, Memory, Spent}
 use Rattle.cap_frame.specs.ReadingFaults.{Answered, Faults}
 use Rattle.cap_text.specs.Writing.{Stopped, Wrote}
 use Rattle.cap_text.specs.declared.fault.Cause.{Cause}
@@ -13,10 +13,10 @@ use Rattle.cap_text.specs.declared.fault.Cause.TheVariants.{Canon, Frame, NotStr
 use Rattle.cap_text.specs.declared.fault.Cause.TheVariants.{Memory as no_marks}
 use Rattle.cap_text.specs.declared.fault.RunFault.{RunFault}
 use Rattle.cap_run.specs.Streams.{ReadsStream}
-use Rattle.cap_run.specs.Reporting.{Reports, Reported, texts_of}
+use Rattle.cap_run.specs.Reporting.{Reports, Reported, texts_of, words_if}
 use Rattle.cap_run.specs.declared.engines.stream.Counted.{Counted}
 use Rattle.cap_run.specs.declared.settings.Outcome.{Outcome}
-use Rattle.cap_words.specs.declared.ends.ByteOut as output
+use Rattle.cap_words.specs.declared.byte_io.ByteOut as output
 use Rattle.cap_words.specs.declared.sources.WordSource as source
 
 -- what an engine returns after a text was written, or after the output failed in it
@@ -90,11 +90,12 @@ module _ {S : Type 0} (g : source.Ghosts S) where
   EndStops limit old new no_marks = ⊥
 
 module _ {S O : Type 0} (gs : source.Ghosts S) (go : output.Ghosts O) where
-  -- a message was read, and its text as message n was written
-  abbrev pub StepReports : Reports → ℕ → ℕ → S → S → O → O → Counted → Type 0
-  StepReports reports limit n old new before after counted = (t : Reported) × (t.counted ≡ counted)
+  -- a message of this number of words was read, if they are counted, and its text as message n was
+  -- written
+  abbrev pub StepReports : Bool → Reports → ℕ → ℕ → S → S → O → O → Counted → ℕ → Type 0
+  StepReports counts reports limit n old new before after counted words = (t : Reported) × (t.counted ≡ counted)
       × reports n t.message t.text t.counted × ReadsStream gs limit old new (t.message ∷ [])
-      × Wrote go before after t.text
+      × Wrote go before after t.text × (words ≡ words_if counts t.message) × (words ≤ 2 ^ 29)
 
   -- why an engine ended at message n, which may need an allocation after it was read
   abbrev pub StepStops : Reports → (List (List ℕ) → Type 0) → ℕ → ℕ → S → S → O → O → Cause → Type 0

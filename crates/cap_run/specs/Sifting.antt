@@ -12,30 +12,30 @@ use Rattle.cap_run.specs.Filtering.{Logged, Notes, PassesOn}
 use Rattle.cap_run.specs.Running.{Appended}
 use Rattle.cap_run.specs.Streams.{ReadsStream}
 use Rattle.cap_run.specs.Reporting.{Reports}
-use Rattle.cap_run.specs.declared.engines.sifting.Objection.{Objection}
-use Rattle.cap_run.specs.declared.engines.sifting.Objection.TheVariants.{Overlap, Unmet}
+use Rattle.cap_run.specs.declared.engines.sifting.Rejection.{Rejection}
+use Rattle.cap_run.specs.declared.engines.sifting.Rejection.TheVariants.{Overlap, Unmet}
 use Rattle.cap_run.specs.declared.engines.stream.Counted.{Counted}
 use Rattle.cap_run.specs.declared.engines.stream.Counted.TheVariants.{Accepted, Refused as was_refused}
-use Rattle.cap_words.specs.declared.ends.ByteOut as output
+use Rattle.cap_words.specs.declared.byte_io.ByteOut as output
 use Rattle.cap_words.specs.declared.sources.WordSource as source
 
 -- what the line of a refused message says
-abbrev pub objection_verdict : Objection → Verdict
-objection_verdict (Unmet refusal) = strict_verdict refusal
-objection_verdict (Overlap s w pointers) = refused (codes "Overlap") s w pointers
+abbrev pub rejection_verdict : Rejection → Verdict
+rejection_verdict (Unmet refusal) = strict_verdict refusal
+rejection_verdict (Overlap s w pointers) = refused (codes "Overlap") s w pointers
 
 -- the line of message n, which is refused
-abbrev pub objection_text : ℕ → Objection → List ℕ
-objection_text n objection = vet_text n (objection_verdict objection)
+abbrev pub rejection_text : ℕ → Rejection → List ℕ
+rejection_text n rejection = vet_text n (rejection_verdict rejection)
 
 -- what is found of a message: it is accepted, or refused with this line, whatever its number is; or
 -- an allocation failed that it needs
-abbrev pub FindsObjection : Reports → (List (List ℕ) → Type 0) → List (List ℕ)
-    → Result (Option Objection) Cause → Type 0
-FindsObjection verdict allocates m (Ok None) = (n : ℕ) → (line : List ℕ) × verdict n m line Accepted
-FindsObjection verdict allocates m (Ok (Some objection)) = (n : ℕ)
-    → verdict n m (objection_text n objection) was_refused
-FindsObjection verdict allocates m (Err cause) = (cause ≡ no_marks) × allocates m
+abbrev pub FindsRejection : Reports → (List (List ℕ) → Type 0) → List (List ℕ)
+    → Result (Option Rejection) Cause → Type 0
+FindsRejection verdict allocates m (Ok None) = (n : ℕ) → (line : List ℕ) × verdict n m line Accepted
+FindsRejection verdict allocates m (Ok (Some rejection)) = (n : ℕ)
+    → verdict n m (rejection_text n rejection) was_refused
+FindsRejection verdict allocates m (Err cause) = (cause ≡ no_marks) × allocates m
 
 module _ {E : Type 0} (ge : output.Ghosts E) where
   -- the log goes on with this line, unless it failed before or fails now

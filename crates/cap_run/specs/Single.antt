@@ -22,8 +22,8 @@ use Rattle.cap_run.specs.Streams.{EndsStream, ReadsStream}
 use Rattle.cap_words.specs.declared.sources.WordSource as source
 
 -- the bytes of a message's frame with zero padding
-abbrev pub frame_bytes : List (List ℕ) → List ℕ
-frame_bytes m = plain_text (frame_text m)
+abbrev pub padded_frame : List (List ℕ) → List ℕ
+padded_frame m = plain_text (frame_text m)
 
 -- P, unless reading failed, an allocation failed, or an earlier error had closed the input
 abbrev pub SettledFirst : Result (Option VecOut) ExplainedFault → Type 0 → Type 0
@@ -53,14 +53,14 @@ module _ {S : Type 0} (gs : source.Ghosts S) where
   pub record ReadsSingle (packed : Bool) (limit : ℕ) (old new : S)
       (result : Result (Option VecOut) ExplainedFault) : Type 0 where
     pub message : (frame : VecOut) → result ≡ Ok (Some frame) → (m : List (List ℕ))
-        × ReadsStream gs limit old new (m ∷ []) × (vec_written frame ≡ Some (frame_bytes m))
+        × ReadsStream gs limit old new (m ∷ []) × (vec_written frame ≡ Some (padded_frame m))
     pub none : result ≡ Ok None → EndsStream gs old new
     pub err : IfErr result (λ e. (e.fault.message ≡ 0) × LacksFirst limit old new e.fault.cause)
     pub broken : IfErr result (λ e. BreaksBy gs packed limit old e.fault.cause e.at)
     -- And the other way round, if the words are known. They begin with a message within the limit.
     pub whole : (ws : List ℕ) → gs.words old ≡ Some ws → (b : BeginsMessage limit ws) →
         SettledFirst result ((frame : VecOut) × (result ≡ Ok (Some frame))
-        × (vec_written frame ≡ Some (frame_bytes b.message)) × (gs.words new ≡ Some b.rest))
+        × (vec_written frame ≡ Some (padded_frame b.message)) × (gs.words new ≡ Some b.rest))
     -- There are none.
     pub empty : gs.words old ≡ Some [] → gs.is_cut old ≡ false →
         SettledFirst result (result ≡ Ok None)

@@ -3,7 +3,7 @@
 use Rattle.std.specs.List.{AllByRecursion}
 use Rattle.std.specs.Prelude.{List, OnSome, Some, [], false, sum, true, ℕ, ◌∷◌, ◌≡◌, ◌≤◌}
 use Rattle.cap_spec.specs.Frames.{Stream, sizes_of}
-use Rattle.cap_words.specs.Ends.{Works}
+use Rattle.cap_words.specs.ByteIo.{Works}
 use Rattle.cap_frame.specs.Taking.{Takes}
 use Rattle.cap_words.specs.declared.sources.WordSource as source
 

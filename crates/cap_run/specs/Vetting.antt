@@ -3,8 +3,8 @@ use Rattle.std.specs.Prelude.{List, codes, ℕ, ◌++◌, ◌≡◌}
 use Rattle.cap_spec.specs.SpecNames.{IsFirstOverlap, refused, vet_text, Tree, node_at}
 use Rattle.cap_spec.specs.Texts.{dump_text, get_text}
 use Rattle.cap_spec.specs.declared.Step.{Step}
-use Rattle.cap_vet.specs.Reports.{IsAccepted, IsReport}
-use Rattle.cap_vet.specs.declared.walk.vetting.Report.{Report}
+use Rattle.cap_walk.specs.Reports.{IsAccepted, IsReport}
+use Rattle.cap_walk.specs.declared.report.Report.{Report}
 use Rattle.cap_text.specs.Lines.{accepted_text}
 use Rattle.cap_run.specs.declared.engines.stream.Counted.{Counted}
 use Rattle.cap_run.specs.declared.engines.stream.Counted.TheVariants.{Accepted, Refused}

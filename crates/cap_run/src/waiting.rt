@@ -1,11 +1,11 @@
 //! When an output is flushed, for all engines, and the sources that show what is buffered of their
 //! input. What can be said of the bytes that have come is said before the program waits for more: with
 //! [`FlushBeforeWaiting`] an engine flushes what it wrote, unless its source shows what is read next.
-//! `tests/live.py` shows when it flushes, and no clause says it.
+//! `tests/program/live.py` shows when it flushes, and no clause says it.
 
 ghost use Rattle.cap_frame.specs.Limit.{limit_of};
 ghost use Rattle.cap_frame.specs.Putting.{Halts};
-ghost use Rattle.cap_run.specs.Peeking.{BeginsMessage, ShowsFrame};
+ghost use Rattle.cap_run.specs.Peeking.{BeginsWithFrame, ShowsFrame};
 ghost use Rattle.cap_run.specs.Transcoding.{PutsWords};
 ghost use Rattle.cap_text.specs.Writing.{Writes, Wrote};
 ghost use Rattle.std.specs.Prelude.{◌<◌, ◌≡◌, ◌↔◌, Bool, IfErr, IfSome, IsFalse, IsTrue, List, OnOk, false, length, true, ℕ};
@@ -21,7 +21,7 @@ pub trait Peek: WordSource {
     /// this message without a call of the device. `buffer` is a place for words that are looked at.
     /// `false` doesn't say that the message isn't buffered.
     fn shows_message(&self, size: SizeLimit, buffer: &mut [u8]) -> bool
-        ensures { IsTrue result → IfSome (Self.words self.now) (BeginsMessage (limit_of size)) };
+        ensures { IsTrue result → IfSome (Self.words self.now) (BeginsWithFrame (limit_of size)) };
 
     /// Whether buffered bytes hold the next word. The source then gives it without a call of the
     /// device. `false` doesn't say that it isn't buffered.
@@ -99,7 +99,7 @@ pub trait Flushing<S: WordSource> {
     /// that are looked at.
     fn before_message(&self, source: &S, size: SizeLimit, ahead: &mut [u8]) -> bool
         ensures { IsFalse result → is_live self.now ≡ true →
-            IfSome (S.words source.now) (BeginsMessage (limit_of size)) };
+            IfSome (S.words source.now) (BeginsWithFrame (limit_of size)) };
 
     /// Whether to flush before the next word of the source is read.
     fn before_word(&self, source: &S) -> bool

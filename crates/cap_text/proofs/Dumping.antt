@@ -14,7 +14,7 @@ use Rattle.cap_text.specs.Dumping.{trees_from}
 use Rattle.cap_text.specs.TextNames.{Kind, OutFault, Added, Adds, Halted}
 use Rattle.cap_text.proofs.Paging.{Left, added_then, adds_then, halted_more, halted_then, left_done, left_start}
 use Rattle.cap_text.proofs.Paging.{left_step, left_stop}
-use Rattle.cap_words.specs.declared.ends.ByteOut as output
+use Rattle.cap_words.specs.declared.byte_io.ByteOut as output
 
 -- the next of some trees
 next_tree : (ts : Trees) (i : ℕ) (u : Tree) → tree_at ts i ≡ Some u → trees_from i ts ≡ more u (trees_from (i + 1) ts)

@@ -11,7 +11,7 @@ use Rattle.cap_spec.proofs.Canonical.Placing.{rest_at}
 use Rattle.cap_text.specs.Dumping.{head_of}
 use Rattle.cap_text.specs.TextNames.{Kind, OutFault, word_letter_of, Added, Adds, Halted}
 use Rattle.cap_text.proofs.Paging.{Left, adds_then, left_done, left_step, left_stop}
-use Rattle.cap_words.specs.declared.ends.ByteOut as output
+use Rattle.cap_words.specs.declared.byte_io.ByteOut as output
 
 -- a line that is put together from a name, a space and a text
 pub four_texts : (name text a b c d : List ℕ) → a ≡ name → b ≡ a ++ 32 ∷ [] → c ≡ b ++ text → d ≡ c ++ 10 ∷ [] → d ≡ name ++ 32 ∷ text ++ 10 ∷ []

@@ -4,7 +4,7 @@ use Rattle.std.proofs.Common.{List, Result, [], append-nil, append_assoc, inl, i
 use Rattle.std.proofs.Common.{◌++◌, ◌∙◌, ◌≡◌, ◌⊎◌}
 use Rattle.cap_text.specs.TextNames.{OutFault, Added, Adds, Halted, Stopped, Writes, Wrote}
 use Rattle.cap_text.proofs.Writing.{stopped_more, stopped_then, writes_then, wrote_then}
-use Rattle.cap_words.specs.declared.ends.ByteOut as output
+use Rattle.cap_words.specs.declared.byte_io.ByteOut as output
 
 module _ {O : Type 0} (g : output.Ghosts O) where
   -- nothing went out, or this text

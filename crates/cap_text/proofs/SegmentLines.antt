@@ -5,7 +5,7 @@ use Rattle.cap_frame.specs.Outlines.{Outlines, root_in, sizes_in}
 use Rattle.cap_frame.specs.declared.outline.Outline.{Outline}
 use Rattle.cap_text.specs.Paging.{Added}
 use Rattle.cap_text.proofs.Paging.{Left, left_step}
-use Rattle.cap_words.specs.declared.ends.ByteOut as output
+use Rattle.cap_words.specs.declared.byte_io.ByteOut as output
 
 -- the sizes from the next one on
 pub drop_size : (ns : List ℕ) (s : ℕ) → s < length ns → drop s ns ≡ get_or ns s 0 ∷ drop (s + 1) ns

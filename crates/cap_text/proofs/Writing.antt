@@ -4,11 +4,11 @@ use Rattle.std.proofs.Common.{IsErrOf, List, OnErr, OnOk, Option, Result, append
 use Rattle.std.proofs.Common.{drop, length, sym, take, take-append-drop, true, ℕ, ◌++◌, ◌<◌, ◌≡◌}
 use Rattle.std.proofs.KnownBytes.{Appends-kept, Appends-trans}
 use Rattle.std.specs.Io.KnownBytes.{Appends, Keeps}
-use Rattle.cap_words.specs.Ends.{DeviceFails, AllocationFails, WasBroken, Works}
-use Rattle.cap_words.specs.declared.ends.OutFault.{OutFault}
-use Rattle.cap_words.specs.declared.ends.OutFault.TheVariants.{Device, Memory, Spent}
+use Rattle.cap_words.specs.ByteIo.{DeviceFails, AllocationFails, WasBroken, Works}
+use Rattle.cap_words.specs.declared.byte_io.OutFault.{OutFault}
+use Rattle.cap_words.specs.declared.byte_io.OutFault.TheVariants.{Device, Memory, Spent}
 use Rattle.cap_text.specs.Writing.{Stopped, Writes, WritesPart, Wrote}
-use Rattle.cap_words.specs.declared.ends.ByteOut as output
+use Rattle.cap_words.specs.declared.byte_io.ByteOut as output
 
 -- a beginning of the first text begins both
 pub part_more : (a b : Option (List ℕ)) (xs ys : List ℕ) → WritesPart a b xs → WritesPart a b (xs ++ ys)

@@ -68,12 +68,12 @@ cut_place true false = codes ", between two packed groups"
 cut_place true true = codes ", and inside a packed group"
 
 -- the reason as a sentence
-abbrev pub reason_line : List ℕ → List ℕ
-reason_line sentence = (codes "  reason " ++ sentence) ++ 10 ∷ []
+abbrev pub break_reason : List ℕ → List ℕ
+break_reason sentence = (codes "  reason " ++ sentence) ++ 10 ∷ []
 
 -- where the input ends
 abbrev pub cut_line : StreamBreak → List ℕ
-cut_line at = reason_line (cut_part at.table ++ cut_place at.packed at.is_cut)
+cut_line at = break_reason (cut_part at.table ++ cut_place at.packed at.is_cut)
 
 -- the lines on a message that is cut short at a byte
 abbrev pub cut_lines : ℕ → StreamBreak → List ℕ
@@ -82,9 +82,9 @@ cut_lines byte at = bytes_line byte at ++ cut_line at
 -- the lines on a message that can't be read
 abbrev pub break_lines : FrameFault → StreamBreak → List ℕ
 break_lines (TooManySegments count) at = message_line at ++ (many_line count
-    ++ reason_line (codes "the first word of the message says more segments than a message may have"))
+    ++ break_reason (codes "the first word of the message says more segments than a message may have"))
 break_lines (TooLarge words) at = message_line at ++ (table_line at.table ++ (large_line words at.limit
-    ++ reason_line (codes "the segments together have more words than the limit allows")))
+    ++ break_reason (codes "the segments together have more words than the limit allows")))
 break_lines (Truncated byte) at = message_line at ++ (table_line at.table ++ cut_lines byte at)
 break_lines Device at = []
 break_lines Memory at = []

@@ -41,8 +41,8 @@ is_text first = if is_packed_root first then false else
 
 -- the first word of a table as packing writes it, for at most 256 segments: the first of them has at least one
 -- word, and fewer than 2^24. The byte after the tag isn't zero (encoding: Packing)
-abbrev pub is_packed : ℕ → Bool
-is_packed first = (field first 1 3 == 0 && field first 7 1 == 0)
+abbrev pub looks_packed : ℕ → Bool
+looks_packed first = (field first 1 3 == 0 && field first 7 1 == 0)
     && (nat_lt 0 (field first 4 3) && nat_lt 0 (field first 8 8))
 
 -- what an input may be that is read as it is
@@ -50,7 +50,7 @@ abbrev pub plain_guess : ℕ → Option Guess
 plain_guess first = if is_gzip first then Some guess.Gzip else
     (if is_tls first then Some guess.Tls else
     (if is_text first then Some guess.Text else
-    (if is_packed first then Some guess.Packed else None)))
+    (if looks_packed first then Some guess.Packed else None)))
 
 -- What unpacking makes of gzip: the byte 1f is the tag, so the word begins with 8b 08.
 abbrev pub is_unpacked_gzip : ℕ → Bool

@@ -65,11 +65,16 @@ abbrev pub reason_members : List ℕ → ℕ → ℕ → ℕ → Option (List St
 reason_members name s w p path sentence =
     reason_member name ++ place_members s w p ++ path_member path ++ sentence_member sentence
 
+-- the level at which the path was at its pointer word before, if it was: the level of a cycle
+abbrev pub cycle_member : Option ℕ → List ℕ
+cycle_member None = []
+cycle_member (Some level) = number_member (codes "cycle_level") level
+
 -- the line of message n with this verdict, which is explained if it is refused
-abbrev pub explained_json : ℕ → Verdict → Option (List Step) → List ℕ → List ℕ
-explained_json n (accepted c d p k) path sentence = verdict_json n (accepted c d p k)
-explained_json n (refused name s w p) path sentence = object_start n (codes "refused") ++ codes ","
-    ++ reason_members name s w p path sentence ++ codes "}\n"
+abbrev pub explained_json : ℕ → Verdict → Option (List Step) → List ℕ → Option ℕ → List ℕ
+explained_json n (accepted c d p k) path sentence cycle = verdict_json n (accepted c d p k)
+explained_json n (refused name s w p) path sentence cycle = object_start n (codes "refused") ++ codes ","
+    ++ reason_members name s w p path sentence ++ cycle_member cycle ++ codes "}\n"
 
 -- the member of an accepted message that has this verdict by what filter, the guard and the libraries demand
 abbrev pub filter_member : Verdict → Option (List Step) → List ℕ → List ℕ

@@ -1,7 +1,7 @@
 -- The line of a message that is accepted, and the one after it (profile).
 use Rattle.std.specs.Prelude.{List, [], codes, ℕ, ◌++◌, ◌∷◌}
 use Rattle.cap_spec.specs.Texts.{Verdict, accepted, refused, then_number, vet_text}
-use Rattle.cap_vet.specs.declared.walk.vetting.Report.{Report}
+use Rattle.cap_walk.specs.declared.report.Report.{Report}
 use Rattle.cap_text.specs.FaultLines.{place_text}
 
 -- the line of message n if it is accepted, with the numbers of its tree

@@ -1,9 +1,9 @@
 -- What a call that puts a text on a page says of the output and the page before and after
 -- (profile). g has the members of the output's type.
 use Rattle.std.specs.Prelude.{List, MatchResult, Result, [], ℕ, ◌++◌, ◌≡◌, ◌⊎◌}
-use Rattle.cap_words.specs.declared.ends.OutFault.{OutFault}
+use Rattle.cap_words.specs.declared.byte_io.OutFault.{OutFault}
 use Rattle.cap_text.specs.Writing.{Stopped, Wrote}
-use Rattle.cap_words.specs.declared.ends.ByteOut as output
+use Rattle.cap_words.specs.declared.byte_io.ByteOut as output
 
 module _ {O : Type 0} (g : output.Ghosts O) where
   -- the page's old text and then this text: some or none of it was written, and the rest is on the

@@ -2,10 +2,10 @@
 -- of the output's type.
 use Rattle.std.specs.Io.KnownBytes.{Appends}
 use Rattle.std.specs.Prelude.{List, MatchResult, Option, Result, true, ℕ, ◌++◌, ◌≡◌}
-use Rattle.cap_words.specs.Ends.{DeviceFails, AllocationFails, Works}
-use Rattle.cap_words.specs.declared.ends.OutFault.{OutFault}
-use Rattle.cap_words.specs.declared.ends.OutFault.TheVariants.{Device, Memory, Spent}
-use Rattle.cap_words.specs.declared.ends.ByteOut as output
+use Rattle.cap_words.specs.ByteIo.{DeviceFails, AllocationFails, Works}
+use Rattle.cap_words.specs.declared.byte_io.OutFault.{OutFault}
+use Rattle.cap_words.specs.declared.byte_io.OutFault.TheVariants.{Device, Memory, Spent}
+use Rattle.cap_words.specs.declared.byte_io.ByteOut as output
 
 -- a prefix of the text was written
 pub record WritesPart (before after : Option (List ℕ)) (text : List ℕ) : Type 0 where

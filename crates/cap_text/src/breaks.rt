@@ -1,13 +1,14 @@
 //! The lines that explain why a stream breaks off.
 
-ghost use Rattle.cap_text.specs.BreakLines.{break_lines, bytes_line, cause_lines, cut_line, cut_lines, cut_part, cut_place, explained_fault_text, guessed_lines, large_line, many_line, message_line, needed_text, of_packed_input, packed_note, reason_line, table_line, unpacked_note};
+ghost use Rattle.cap_text.specs.BreakLines.{break_lines, bytes_line, cause_lines, cut_line, cut_lines, cut_part, cut_place, explained_fault_text, guessed_lines, large_line, many_line, message_line, needed_text, of_packed_input, packed_note, break_reason, table_line, unpacked_note};
 ghost use Rattle.cap_text.specs.Writing.{Writes};
 ghost use Rattle.std.specs.Prelude.{◌*◌, ◌+◌, ◌++◌, ◌≡◌, ◌≤◌, length};
 
 use crate::fault::{Cause, ExplainedFault, StreamBreak};
-use crate::faults::{TEXT, fault_text};
+use crate::fault_lines::{TEXT, fault_text};
 use crate::guess::{GUESS, break_guess, push_guess_line};
-use crate::page::{CAPACITY, DIGITS, Page, write_bytes};
+use crate::page::{CAPACITY, Page, write_bytes};
+use cap_buffer::DIGITS;
 use cap_frame::{FrameFault, TableSums};
 use cap_words::{ByteOut, OutFault};
 
@@ -151,7 +152,7 @@ fn cut_place(packed: bool, is_cut: bool) -> &'static [u8]
 fn push_reason_line(page: &mut Page, sentence: &[u8])
     requires short { length sentence.now ≤ SENTENCE }
     requires fits { length page.old + LINE ≤ CAPACITY }
-    ensures items { page.new ≡ page.old ++ reason_line sentence.now }
+    ensures items { page.new ≡ page.old ++ break_reason sentence.now }
     ensures few { length page.new ≤ length page.old + LINE }
 {
     page.push_text(b"  reason ");

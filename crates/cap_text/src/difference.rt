@@ -9,7 +9,7 @@ ghost use Rattle.std.specs.Prelude.{◌+◌, ◌++◌, ◌≡◌, ◌≤◌, Som
 
 use crate::explained::{REFUSAL, SENTENCE, push_refusal};
 use crate::json::{NUMBERS, START, push_numbers, start_object};
-use crate::page::{CAPACITY, Page, write_bytes};
+use crate::page::{CAPACITY, Page, begin_message, message_line, write_bytes};
 use crate::verdict::{NAME, Refused, push_place, refused_for};
 use cap_difference::{Difference, DifferenceReason};
 use cap_spec::{Step, StrictRefusal};
@@ -43,7 +43,7 @@ fn difference_name(reason: DifferenceReason) -> &'static [u8]
 fn not_canonical_line(page: &mut Page, number: u32, difference: &Difference)
     ensures { page.new ≡ difference_text number (Some difference.now) }
 {
-    page.begin_message(number);
+    begin_message(page, number);
     page.push_text(b"not canonical: ");
     page.push_text(difference_name(difference.reason));
     push_place(page, difference.segment, difference.word);
@@ -57,7 +57,7 @@ fn difference_line(page: &mut Page, number: u32, difference: &Option<Difference>
 {
     match difference {
         Some(difference) => not_canonical_line(page, number, difference),
-        None => page.message_line(number, b"canonical"),
+        None => message_line(page, number, b"canonical"),
     }
 }
 

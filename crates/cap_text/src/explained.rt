@@ -1,25 +1,18 @@
 //! The JSON objects that explain why a message is refused, one a line (RFC 8259).
 
-ghost use Rattle.cap_spec.specs.PathTexts.{path_text, step_text};
 ghost use Rattle.cap_spec.specs.Texts.{refused, strict_verdict};
-ghost use Rattle.cap_text.specs.JsonLines.{accepted_json, explained_json, filter_member, path_member, reason_member, reason_members, sentence_member, steps_member};
+ghost use Rattle.cap_text.specs.JsonLines.{accepted_json, cycle_member, explained_json, filter_member, path_member, reason_member, reason_members, sentence_member, steps_member};
 ghost use Rattle.cap_text.specs.Writing.{Writes};
-ghost use Rattle.std.specs.List.{flat_map};
 ghost use Rattle.std.specs.Option.{option_map};
-ghost use Rattle.std.specs.Prelude.{◌*◌, ◌+◌, ◌++◌, ◌<◌, ◌^◌, ◌≡◌, ◌≤◌, codes, decimal, length};
+ghost use Rattle.std.specs.Prelude.{◌*◌, ◌+◌, ◌++◌, ◌≡◌, ◌≤◌, codes, length};
 
-use crate::json::{MEMBER, push_numbers, push_place_members, start_object};
-use crate::page::{CAPACITY, DIGITS, Page, write_bytes};
+use crate::json::{MEMBER, push_member, push_numbers, push_place_members, start_object};
+use crate::page::{CAPACITY, Page, write_bytes};
 use crate::verdict::{NAME, Refused, refused_for};
+use cap_buffer::{DIGITS, STEP, STEPS};
 use cap_spec::{Step, StrictRefusal};
 use cap_vet::Report;
 use cap_words::{ByteOut, OutFault};
-
-/// The most steps of a path that an object has.
-const STEPS: usize = 257;
-
-/// The space for the text of one step.
-const STEP: usize = 12;
 
 /// The space for a path, with its member.
 const PATH: usize = 11 + STEP * STEPS;
@@ -30,51 +23,6 @@ pub(crate) const SENTENCE: usize = 120;
 /// The space for the members of a refusal.
 pub(crate) const REFUSAL: usize = NAME + 3 * MEMBER + PATH + SENTENCE + 40;
 
-/// Appends the name of a step's kind and its number.
-fn push_index(page: &mut Page, name: &[u8], number: u64)
-    requires { length page.old + length name.now + DIGITS ≤ CAPACITY }
-    ensures items { page.new ≡ page.old ++ (name.now ++ decimal number) }
-    ensures fewer { number < 2 ^ 32 → length page.new ≤ length page.old + length name.now + 10 }
-{
-    page.push_named(name, number);
-}
-
-/// Appends the text of a step.
-fn push_step(page: &mut Page, step: Step)
-    requires { length page.old + DIGITS + 2 ≤ CAPACITY }
-    ensures items { page.new ≡ page.old ++ step_text step }
-    ensures few { length page.new ≤ length page.old + STEP }
-{
-    match step {
-        Step::Ptr(index) => push_index(page, b"/p", u64::from(index)),
-        Step::Item(index) => push_index(page, b"/i", u64::from(index)),
-    }
-}
-
-/// Appends the texts of steps.
-fn push_steps(page: &mut Page, steps: &[Step])
-    requires { length page.old + STEP * length steps.now + DIGITS ≤ CAPACITY }
-    ensures items { page.new ≡ page.old ++ flat_map step_text steps.now }
-    ensures few { length page.new ≤ length page.old + STEP * length steps.now }
-{
-    for step in steps {
-        push_step(page, *step);
-    }
-}
-
-/// Appends the text of a path.
-fn push_path(page: &mut Page, steps: &[Step])
-    requires { length page.old + 1 + STEP * length steps.now + DIGITS ≤ CAPACITY }
-    ensures items { page.new ≡ page.old ++ path_text steps.now }
-    ensures few { length page.new ≤ length page.old + 1 + STEP * length steps.now }
-{
-    if steps.is_empty() {
-        page.push_text(b"/");
-    } else {
-        push_steps(page, steps);
-    }
-}
-
 /// Appends the member of a path.
 fn push_steps_member(page: &mut Page, steps: &[Step])
     requires few { length steps.now ≤ STEPS }
@@ -83,7 +31,7 @@ fn push_steps_member(page: &mut Page, steps: &[Step])
     ensures few { length page.new ≤ length page.old + PATH }
 {
     page.push_text(b",\"path\":\"");
-    push_path(page, steps);
+    page.push_path(steps);
     page.push_text(b"\"");
 }
 
@@ -140,6 +88,17 @@ pub(crate) fn push_refusal(page: &mut Page, why: Refused, path: Option<&[Step]>,
     push_sentence(page, sentence);
 }
 
+/// Appends the member of the level of a cycle, if there is one.
+fn push_cycle_member(page: &mut Page, cycle: Option<u32>)
+    requires fits { length page.old + MEMBER ≤ CAPACITY }
+    ensures items { page.new ≡ page.old ++ cycle_member cycle }
+    ensures few { length page.new ≤ length page.old + MEMBER }
+{
+    if let Some(level) = cycle {
+        push_member(page, b"cycle_level", u64::from(level));
+    }
+}
+
 /// Begins the page with the object of a message that is refused.
 fn refused_object(
     page: &mut Page,
@@ -147,16 +106,18 @@ fn refused_object(
     why: Refused,
     path: Option<&[Step]>,
     sentence: &[u8],
+    cycle: Option<u32>,
 )
     requires name { length why.name.now ≤ NAME }
     requires short { length sentence.now ≤ SENTENCE }
     ensures { let w = why in page.new ≡ explained_json number
         (refused w.name.now w.segment w.word w.pointers)
-        (option_map (λ steps. steps.now) path.entry) sentence.now }
+        (option_map (λ steps. steps.now) path.entry) sentence.now cycle }
 {
     start_object(page, number, b"refused");
     page.push_text(b",");
     push_refusal(page, why, path, sentence);
+    push_cycle_member(page, cycle);
     page.push_text(b"}\n");
 }
 
@@ -186,9 +147,9 @@ fn filtered_object(
 }
 
 /// Writes the JSON object of message `number`, which is refused: the reason, the place of the
-/// pointer, the path to it, and the reason as a sentence (docs/output.md, JSON). A path of more than
-/// 257 steps has no member: no path to a pointer of a refusal has as many. What the page held before
-/// isn't written.
+/// pointer, the path to it, the reason as a sentence, and the level of a cycle, if there is one
+/// (docs/output.md, JSON). A path of more than 257 steps has no member: no path to a pointer of a
+/// refusal has as many. What the page held before isn't written.
 ///
 /// # Errors
 ///
@@ -200,13 +161,14 @@ pub fn write_explained_json<O: ByteOut>(
     refusal: &StrictRefusal,
     path: Option<&[Step]>,
     sentence: &[u8],
+    cycle: Option<u32>,
 ) -> Result<(), OutFault>
     requires { length sentence.now ≤ 120 }
     ensures { Writes O.ByteOut out.old out.new result
         (explained_json number (strict_verdict refusal.now)
-        (option_map (λ steps. steps.now) path.entry) sentence.now) }
+        (option_map (λ steps. steps.now) path.entry) sentence.now cycle) }
 {
-    refused_object(page, number, refused_for(refusal), path, sentence);
+    refused_object(page, number, refused_for(refusal), path, sentence, cycle);
     write_bytes(out, page.text())
 }
 
@@ -229,7 +191,7 @@ pub fn write_explained_overlap_json<O: ByteOut>(
     requires { length sentence.now ≤ 120 }
     ensures { Writes O.ByteOut out.old out.new result
         (explained_json number (refused (codes "Overlap") segment word pointers)
-        (option_map (λ steps. steps.now) path.entry) sentence.now) }
+        (option_map (λ steps. steps.now) path.entry) sentence.now None) }
 {
     let overlap = Refused {
         name: b"Overlap",
@@ -237,7 +199,7 @@ pub fn write_explained_overlap_json<O: ByteOut>(
         word,
         pointers,
     };
-    refused_object(page, number, overlap, path, sentence);
+    refused_object(page, number, overlap, path, sentence, None);
     write_bytes(out, page.text())
 }
 

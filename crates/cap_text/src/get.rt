@@ -7,8 +7,8 @@ ghost use Rattle.cap_text.specs.Writing.{Writes};
 ghost use Rattle.cap_vet.specs.Views.{node_message, node_spot};
 ghost use Rattle.std.specs.Prelude.{IfNone, IfSome, None, Some};
 
-use crate::node::put_named;
-use crate::page::{Page, write_bytes, write_page};
+use crate::node::put_node;
+use crate::page::{Page, message_line, write_bytes, write_page};
 use cap_frame::Segments;
 use cap_vet::Node;
 use cap_words::{ByteOut, OutFault};
@@ -32,11 +32,11 @@ pub fn write_node<M: Segments, O: ByteOut>(
         (Writes O.ByteOut out.old out.new result (get_text number None)) }
 {
     let Some(node) = node else {
-        page.message_line(number, b"none");
+        message_line(page, number, b"none");
         return write_bytes(out, page.text());
     };
-    page.message_line(number, b"found");
-    match put_named(page, out, b"node", &node) {
+    message_line(page, number, b"found");
+    match put_node(page, out, b"node", &node) {
         Ok(()) => write_page(page, out),
         Err(fault) => Err(fault),
     }

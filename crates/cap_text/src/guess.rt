@@ -1,11 +1,11 @@
 //! What an input may be that is no framed stream.
 
-ghost use Rattle.cap_text.specs.Guesses.{break_guess, cause_guess, count_guess, few_guess, frame_guess, guess_line, guess_text, guessed_fault_text, is_gzip, is_packed, is_packed_root, is_text, is_text_byte, is_tls, is_unpacked_gzip, is_unpacked_tls, latest_start, plain_guess, unpacked_guess};
+ghost use Rattle.cap_text.specs.Guesses.{break_guess, cause_guess, count_guess, few_guess, frame_guess, guess_line, guess_text, guessed_fault_text, is_gzip, looks_packed, is_packed_root, is_text, is_text_byte, is_tls, is_unpacked_gzip, is_unpacked_tls, latest_start, plain_guess, unpacked_guess};
 ghost use Rattle.cap_text.specs.Writing.{Writes};
 ghost use Rattle.std.specs.Prelude.{◌+◌, ◌++◌, ◌≡◌, ◌≤◌, length};
 
 use crate::fault::{Cause, RunFault, StreamBreak};
-use crate::faults::fault_text;
+use crate::fault_lines::fault_text;
 use crate::page::{CAPACITY, Page, write_bytes};
 use cap_frame::FrameFault;
 use cap_words::{ByteOut, OutFault, bits};
@@ -72,8 +72,8 @@ fn is_text(first: u64) -> bool
 }
 
 /// Bytes begin as a packed segment table.
-fn is_packed(first: u64) -> bool
-    ensures { result ≡ is_packed first }
+fn looks_packed(first: u64) -> bool
+    ensures { result ≡ looks_packed first }
 {
     (bits(first, 1, 3) == 0 && bits(first, 7, 1) == 0)
         && (bits(first, 4, 3) > 0 && bits(first, 8, 8) > 0)
@@ -89,7 +89,7 @@ fn plain_guess(first: u64) -> Option<Guess>
         Some(Guess::Tls)
     } else if is_text(first) {
         Some(Guess::Text)
-    } else if is_packed(first) {
+    } else if looks_packed(first) {
         Some(Guess::Packed)
     } else {
         None

@@ -4,15 +4,16 @@ ghost use Rattle.cap_text.specs.HashLines.{digest_text, hash_text, no_form_text}
 ghost use Rattle.cap_text.specs.Writing.{Writes};
 ghost use Rattle.std.specs.Prelude.{◌≡◌};
 
-use crate::page::{HASH, Page, write_bytes};
+use crate::page::{Page, begin_message, write_bytes};
 use crate::verdict::push_place;
+use cap_buffer::HASH;
 use cap_words::{ByteOut, OutFault};
 
 /// Begins the page with the line of an accepted message: the hash of its canonical words.
 fn hash_line(page: &mut Page, number: u32, hash: &[u8; HASH])
     ensures { page.new ≡ hash_text number hash.now }
 {
-    page.begin_message(number);
+    begin_message(page, number);
     page.push_text(b"sha256 ");
     page.push_hash(hash);
     page.push_text(b"\n");
@@ -31,7 +32,7 @@ fn digest_line(page: &mut Page, hash: &[u8; HASH])
 fn no_form_line(page: &mut Page, number: u32, segment: u32, word: u32)
     ensures { page.new ≡ no_form_text number segment word }
 {
-    page.begin_message(number);
+    begin_message(page, number);
     page.push_text(b"no canonical form, capability");
     push_place(page, segment, word);
     page.push_text(b"\n");

@@ -5,8 +5,9 @@ ghost use Rattle.cap_text.specs.JsonLines.{check_json, hash_json, no_form_json, 
 ghost use Rattle.cap_text.specs.Writing.{Writes};
 ghost use Rattle.std.specs.Prelude.{◌*◌, ◌+◌, ◌++◌, ◌≡◌, ◌≤◌, codes, length};
 
-use crate::page::{CAPACITY, HASH, Page, write_bytes};
+use crate::page::{CAPACITY, Page, write_bytes};
 use crate::verdict::{NAME, refused_for};
+use cap_buffer::HASH;
 use cap_spec::StrictRefusal;
 use cap_vet::Report;
 use cap_words::{ByteOut, OutFault};

@@ -6,7 +6,7 @@ ghost use Rattle.cap_text.specs.Paging.{Adds};
 ghost use Rattle.cap_text.specs.Writing.{Writes};
 ghost use Rattle.std.specs.Prelude.{◌+◌, ◌++◌, ◌≡◌, ◌≤◌, ◌∷◌, codes, length};
 
-use crate::page::{CAPACITY, LINE, Page, make_space, write_page};
+use crate::page::{CAPACITY, LINE, Page, begin_message, make_space, write_page};
 use cap_frame::Outline;
 use cap_words::{ByteOut, OutFault};
 
@@ -15,7 +15,7 @@ fn head_line(page: &mut Page, number: u32, count: u32, words: u64)
     ensures { page.new ≡ message_text number
         (codes "segments" ++ then_number count ++ codes " words" ++ then_number words) }
 {
-    page.begin_message(number);
+    begin_message(page, number);
     page.push_named(b"segments ", u64::from(count));
     page.push_named(b" words ", words);
     page.push_text(b"\n");

@@ -12,7 +12,7 @@ ghost use Rattle.cap_vet.specs.Vettings.{message_of, report_of};
 ghost use Rattle.cap_vet.specs.Views.{node_message, node_spot};
 ghost use Rattle.std.specs.Prelude.{◌+◌, ◌++◌, ◌<◌, ◌≡◌, ◌≤◌, ℕ};
 
-use crate::node::{put_child, put_named};
+use crate::node::{put_child, put_node};
 use crate::page::{Page, write_page};
 use crate::verdict::accepted_line;
 use cap_frame::Segments;
@@ -114,7 +114,7 @@ fn put_dump<M: Segments, O: ByteOut>(
     // The children of an object at level n have lines at level n, and a struct of a list has a
     // level too.
     let levels = vetted.report().depth;
-    match put_named(page, out, b"root", &root) {
+    match put_node(page, out, b"root", &root) {
         Ok(()) => put_children(page, out, &root, 1, levels),
         Err(fault) => Err(fault),
     }

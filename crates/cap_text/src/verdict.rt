@@ -6,7 +6,7 @@ ghost use Rattle.cap_text.specs.Lines.{accepted_text, filter_line};
 ghost use Rattle.cap_text.specs.Writing.{Writes};
 ghost use Rattle.std.specs.Prelude.{◌+◌, ◌++◌, ◌≡◌, ◌≤◌, codes, length};
 
-use crate::page::{CAPACITY, Page, write_bytes};
+use crate::page::{CAPACITY, Page, begin_message, message_line, write_bytes};
 use cap_spec::{Lax, StrictRefusal};
 use cap_vet::{Reason, Report};
 use cap_words::{ByteOut, OutFault};
@@ -28,7 +28,7 @@ pub(crate) const FAULT: usize = 70;
 pub(crate) fn accepted_line(page: &mut Page, number: u32, report: &Report)
     ensures { page.new ≡ accepted_text number report.now }
 {
-    page.begin_message(number);
+    begin_message(page, number);
     push_report(page, report);
     page.push_text(b"\n");
 }
@@ -201,7 +201,7 @@ fn refused_line(page: &mut Page, number: u32, name: &[u8], segment: u32, word: u
     requires short { length name.now ≤ NAME }
     ensures { page.new ≡ vet_text number (refused name.now segment word pointers) }
 {
-    page.begin_message(number);
+    begin_message(page, number);
     push_refused(page, name, segment, word);
     page.push_named(b" pointers ", pointers);
     page.push_text(b"\n");
@@ -235,9 +235,9 @@ fn check_line(page: &mut Page, number: u32, canonical: bool)
     ensures { page.new ≡ check_text number canonical }
 {
     if canonical {
-        page.message_line(number, b"canonical");
+        message_line(page, number, b"canonical");
     } else {
-        page.message_line(number, b"not canonical");
+        message_line(page, number, b"not canonical");
     }
 }
 

@@ -1,14 +1,12 @@
 -- The steps on the way down to a word, and the words that come after it.
 use Rattle.cap_spec.proofs.ProofNames.{List, [], ap, append-nil, append_assoc, arith, get_or, length, length-append, refl, subst, suc}
-use Rattle.cap_spec.proofs.ProofNames.{sym, zero, ℕ, ◌++◌, ◌+◌, ◌-◌, ◌<◌, ◌∙◌, ◌∷◌, ◌≡◌, ◌≤◌, segment_of}
+use Rattle.cap_spec.proofs.ProofNames.{sym, zero, ℕ, ◌++◌, ◌+◌, ◌-◌, ◌<◌, ◌∙◌, ◌∷◌, ◌≡◌, ◌≤◌, Spot, segment_of, word}
 use Rattle.std.proofs.Math.Nat.{mul-le-mul_right}
-use Rattle.std.proofs.Common.{◌*◌, set, take, take_all}
-use Rattle.std.proofs.lemmas.List.{get_or_at, length-set, set_at, take_at, take_more}
-use Rattle.std.specs.List.{refill}
-use Rattle.cap_vet.specs.Trails.{Ahead}
-use Rattle.cap_trace.specs.Branches.{IsCounted, element_row, words_in}
+use Rattle.std.proofs.Common.{◌*◌}
+use Rattle.cap_walk.specs.Trails.{Ahead}
+use Rattle.cap_trace.specs.Branches.{AreSteps, IsCounted, StepsFrom, element_row, form_spot, last_spot, spot_of_last, words_in}
 use Rattle.cap_trace.specs.TraceNames.{Step, AreBranches, IsBranch, IsRow, path_of, place_of, rest_from, rest_of, skipped, step_of}
-use Rattle.cap_trace.specs.TraceNames.{words_left, Branch, Form, Pointers, Struct, Structs, word_ahead}
+use Rattle.cap_trace.specs.TraceNames.{Branch, Form, Pointers, Struct, Structs, word_ahead}
 
 -- the path over one more step
 pub path_with : (fs : List Branch) (f : Branch) → path_of (fs ++ f ∷ []) ≡ path_of fs ++ step_of f ∷ []
@@ -53,6 +51,21 @@ branch_at m depth level (f ∷ fs) (suc i) d h less =
     subst (λ (u : ℕ). IsBranch m depth u (get_or fs i d)) (omega arith)
     (branch_at m depth (level + 1) fs i d h.1 (omega (arith, less)))
 
+-- So are their steps.
+pub steps_split : (m : List (List ℕ)) (a : Spot) (fs gs : List Branch) → AreSteps m a (fs ++ gs)
+    → AreSteps m a fs × AreSteps m (last_spot a fs) gs
+steps_split m a [] gs h = (tt, h)
+steps_split m a (f ∷ fs) gs h = let r = steps_split m (spot_of_last f) fs gs h.1 in ((h.0, r.0), r.1)
+
+pub steps_join : (m : List (List ℕ)) (a : Spot) (fs gs : List Branch) → AreSteps m a fs → AreSteps m (last_spot a fs) gs
+    → AreSteps m a (fs ++ gs)
+steps_join m a [] gs h k = k
+steps_join m a (f ∷ fs) gs h k = (h.0, steps_join m (spot_of_last f) fs gs h.1 k)
+
+pub last_more : (a : Spot) (fs gs : List Branch) → last_spot a (fs ++ gs) ≡ last_spot (last_spot a fs) gs
+last_more a [] gs = refl
+last_more a (f ∷ fs) gs = last_more (spot_of_last f) fs gs
+
 -- There are at most as many as levels.
 few_from : (m : List (List ℕ)) (depth level : ℕ) (fs : List Branch) → AreBranches m depth level fs → level ≤ depth + 1
     → length fs + level ≤ depth + 1
@@ -68,7 +81,7 @@ branch form s b n t d p =
     record { form = form; segment = s; start = b; count = n; taken = t; data_words = d; pointers = p }
 
 -- The words of a row are the next one and then the others.
-row_words : (form : Form) (s b n t d p : ℕ) → 0 < words_left form (branch form s b n t d p) → (base : List Step) (level : ℕ)
+row_words : (form : Form) (s b n t d p : ℕ) → IsRow form → t < n → (base : List Step) (level : ℕ)
     → rest_of base level (branch form s b n t d p)
     ≡ record {
       path = base ++ step_of (branch form s b n (t + 1) d p) ∷ [];
@@ -76,26 +89,26 @@ row_words : (form : Form) (s b n t d p : ℕ) → 0 < words_left form (branch fo
       word = b + t;
       level = level + 1;
     } ∷ rest_of base level (branch form s b n (t + 1) d p)
-row_words Struct s b n t d p some base level =
+row_words Struct s b n t d p row some base level =
     let more : n - t ≡ suc (n - (t + 1)) = omega (arith, some) in
     let here : t + 1 - 1 ≡ t = omega arith in
     let next : b + (t + 1) ≡ b + t + 1 = omega arith in rw (more, here, next) refl
-row_words Pointers s b n t d p some base level =
+row_words Pointers s b n t d p row some base level =
     let more : n - t ≡ suc (n - (t + 1)) = omega (arith, some) in
     let here : t + 1 - 1 ≡ t = omega arith in
     let next : b + (t + 1) ≡ b + t + 1 = omega arith in rw (more, here, next) refl
-row_words Structs s b n t d p some base level = absurd (omega (arith, some))
+row_words Structs s b n t d p row some base level = absurd row
 
 -- So it is of those of the last branch.
-pub word_taken : (fs : List Branch) (f : Branch) → 0 < words_left f.form f
+pub word_taken : (fs : List Branch) (f : Branch) → IsRow f.form → f.taken < f.count
     → rest_from [] 1 (fs ++ f ∷ [])
     ≡ word_ahead (fs ++ skipped f 1 ∷ []) (place_of (skipped f 1)) ∷ rest_from [] 1 (fs ++ skipped f 1 ∷ [])
-word_taken fs f some =
-    let at : f.start + (f.taken + 1) - 1 ≡ f.start + f.taken = omega arith in
+word_taken fs f row some =
+    let at : f.start + (f.taken + 1 - 1) ≡ f.start + f.taken = omega arith in
     let long : length (fs ++ skipped f 1 ∷ []) ≡ length fs + 1 = length-append fs (skipped f 1 ∷ []) in
     rest_append [] 1 fs (f ∷ [])
     ∙ ap (λ (u : List Ahead). u ++ rest_from [] 1 fs)
-    (row_words f.form f.segment f.start f.count f.taken f.data_words f.pointers some (path_of fs) (length fs + 1))
+    (row_words f.form f.segment f.start f.count f.taken f.data_words f.pointers row some (path_of fs) (length fs + 1))
     ∙ rw (at, rest_append [] 1 fs (skipped f 1 ∷ []), path_with fs (skipped f 1), long) refl
 
 -- The words of elements are those of the next one and then of the others.
@@ -151,28 +164,22 @@ branch_after m depth level f some h = record {
   shallow = h.shallow;
 }
 
--- The words of a row with some left lie inside their segment.
-pub row_fits : (m : List (List ℕ)) (depth level : ℕ) (f : Branch) → 0 < words_left f.form f → IsBranch m depth level f
-    → (f.start + f.count ≤ length (segment_of m f.segment)) × (words_left f.form f ≡ f.count - f.taken)
-row_fits m depth level f some h = by_form f.form some h.inside
+-- The words of a row lie inside their segment.
+pub row_fits : (m : List (List ℕ)) (depth level : ℕ) (f : Branch) → IsRow f.form → IsBranch m depth level f
+    → f.start + f.count ≤ length (segment_of m f.segment)
+row_fits m depth level f row h = by_form f.form row h.inside
   where
-    by_form : (form : Form) → 0 < words_left form f → f.start + words_in form f ≤ length (segment_of m f.segment)
-        → (f.start + f.count ≤ length (segment_of m f.segment)) × (words_left form f ≡ f.count - f.taken)
-    by_form Struct some h = (h, refl)
-    by_form Pointers some h = (h, refl)
-    by_form Structs some h = absurd (omega (arith, some))
+    by_form : (form : Form) → IsRow form → f.start + words_in form f ≤ length (segment_of m f.segment)
+        → f.start + f.count ≤ length (segment_of m f.segment)
+    by_form Struct row h = h
+    by_form Pointers row h = h
+    by_form Structs row h = absurd row
 
--- A form other than a list of structs is a row,
+-- A form other than a list of structs is a row.
 pub is_row : (form : Form) → (form ≡ Structs → ⊥) → IsRow form
 is_row Struct other = tt
 is_row Pointers other = tt
 is_row Structs other = absurd (other refl)
-
--- and what is left of a row are words.
-pub row_left : (form : Form) (f : Branch) → IsRow form → f.taken < f.count → 0 < words_left form f
-row_left Struct f row some = omega (arith, some)
-row_left Pointers f row some = omega (arith, some)
-row_left Structs f row some = absurd row
 
 -- So do those of the next element, and its pointers are a branch.
 one_of_many : (t n x : ℕ) → t < n → t * x + x ≤ n * x
@@ -194,53 +201,23 @@ element_branch m depth level f is some h =
       counted.1,
     )
 
-pub length_parts : (branches others : List Branch) (last : Branch) → branches ≡ others ++ last ∷ []
-    → length branches ≡ length others + 1
-length_parts branches others last parts = ap (λ (u : List Branch). length u) parts ∙ length-append others (last ∷ [])
+-- Where a row of pointers is taken from, is a word.
+pub row_spot : (form : Form) (f : Branch) → IsRow form → form_spot form f (f.taken - 1) ≡ word (place_of f).segment (place_of f).at
+row_spot Struct f row = refl
+row_spot Pointers f row = refl
+row_spot Structs f row = absurd row
 
--- Branches are those before the last, and the last.
-pub last_apart : (branches now : List Branch) (i : ℕ) (d : Branch) → now ≡ branches → i + 1 ≡ length branches
-    → branches ≡ take i branches ++ get_or now i d ∷ []
-last_apart branches now i d same long =
-    sym (take_all (i + 1) branches (omega (arith, long))) ∙ take_more branches i d (omega (arith, long))
-    ∙ ap (λ (u : List Branch). take i branches ++ get_or u i d ∷ []) (sym same)
+-- Where they are doesn't depend on how many were taken.
+same_spots : (form : Form) (f : Branch) (i : ℕ) → form_spot form (skipped f 1) i ≡ form_spot form f i
+same_spots Struct f i = refl
+same_spots Pointers f i = refl
+same_spots Structs f i = refl
 
--- One of them is read,
-pub one_read : (branches now others rest : List Branch) (x d : Branch) (i : ℕ) → now ≡ branches → branches ≡ others ++ x ∷ rest
-    → i ≡ length others → get_or now i d ≡ x
-one_read branches now others rest x d i same parts long =
-    ap (λ (u : List Branch). get_or u i d) (same ∙ parts) ∙ get_or_at others x rest d i (sym long)
+pub skipped_steps : (m : List (List ℕ)) (a : Spot) (f : Branch) → StepsFrom m a f → StepsFrom m a (skipped f 1)
+skipped_steps m a f h = (h.0, λ i less. rw (same_spots f.form f i) (h.1 i less))
 
--- or written.
-pub one_written : (branches now others rest : List Branch) (x b : Branch) (i : ℕ) → now ≡ branches → branches ≡ others ++ x ∷ rest
-    → i ≡ length others → refill (length branches) branches (set now i b) ≡ others ++ b ∷ rest
-one_written branches now others rest x b i same parts long =
-    ap (λ (u : List Branch). refill (length branches) branches (set u i b)) same
-    ∙ take_at (set branches i b) _ (length branches) (length-set branches i b)
-    ∙ ap (λ (u : List Branch). set u i b) parts
-    ∙ set_at others x rest b i (sym long)
-
--- The last two are those that are read, and before them are others.
-pub length_two : (branches others : List Branch) (x y : Branch) → branches ≡ others ++ x ∷ y ∷ []
-    → length branches ≡ length others + 2
-length_two branches others x y parts = ap (λ (u : List Branch). length u) parts ∙ length-append others (x ∷ y ∷ [])
-
-pub last_two : (branches now : List Branch) (i : ℕ) (d : Branch) → now ≡ branches → i + 2 ≡ length branches
-    → branches ≡ take i branches ++ get_or now i d ∷ get_or now (i + 1) d ∷ []
-last_two branches now i d same long =
-    last_apart branches now (i + 1) d same (omega (arith, long))
-    ∙ ap (λ (u : List Branch). u ++ get_or now (i + 1) d ∷ []) (take_more branches i d (omega (arith, long)))
-    ∙ append_assoc (take i branches) (get_or branches i d ∷ []) (get_or now (i + 1) d ∷ [])
-    ∙ ap (λ (u : List Branch). take i branches ++ get_or u i d ∷ get_or now (i + 1) d ∷ []) (sym same)
-
--- The branches without the last one.
-pub all_but_last : (branches others : List Branch) (last : Branch) → branches ≡ others ++ last ∷ []
-    → take (length branches - 1) branches ≡ others
-all_but_last branches others last parts =
-    ap (λ (u : List Branch). take (length branches - 1) u) parts
-    ∙ take_at others (last ∷ []) _ (omega (arith, length_parts branches others last parts))
-
-pub but_last_two : (branches others : List Branch) (x y : Branch) → branches ≡ others ++ x ∷ y ∷ []
-    → take (length branches - 1) branches ≡ others ++ x ∷ []
-but_last_two branches others x y parts =
-    all_but_last branches (others ++ x ∷ []) y (parts ∙ sym (append_assoc others (x ∷ []) (y ∷ [])))
+-- A step leads from an element to each of its pointers.
+pub element_steps : (m : List (List ℕ)) (f : Branch) → f.form ≡ Structs → 0 < f.pointers
+    → StepsFrom m (spot_of_last (skipped f 1)) (element_row f)
+element_steps m f is some =
+    let here : f.taken + 1 - 1 ≡ f.taken = omega arith in rw (is, here) (some, λ i less. (less, refl))

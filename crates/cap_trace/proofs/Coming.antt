@@ -1,17 +1,17 @@
 -- A search comes to the pointer words of a message one after the other.
-use Rattle.cap_spec.proofs.Lemmas.{HasWord-inside, Before-asymmetric, Before-irreflexive, one_reached, one_of_last}
+use Rattle.cap_spec.proofs.Lemmas.{HasWord-inside, Before-asymmetric, Before-irreflexive, one_reached, one_of_last, short_segment}
 use Rattle.cap_spec.proofs.ProofNames.{List, None, Some, [], append_assoc, arith, inl, inr, length, length-append, refl, subst, sym, ℕ}
 use Rattle.cap_spec.proofs.ProofNames.{◌++◌, ◌+◌, ◌<◌, ◌∷◌, ◌≡◌, ◌≤◌, ◌⊎◌, IsOneOf, segment_of, Before, IsNumbered}
-use Rattle.cap_spec.proofs.ProofNames.{IsTour, Reaches}
+use Rattle.cap_spec.proofs.ProofNames.{IsMessage, IsTour, Reaches, Spot, word, ◌^◌, ◌∙◌}
 use Rattle.std.proofs.lemmas.List.{length-map}
-use Rattle.cap_vet.specs.Trails.{Ahead, IsTrail}
-use Rattle.cap_vet.proofs.OneTrail.{root_trail}
-use Rattle.cap_trace.specs.Branches.{element_row}
-use Rattle.cap_trace.specs.TraceNames.{Step, AreBranches, path_of, place_of, rest_from, skipped, step_of, words_left, IsTraceable}
+use Rattle.cap_walk.specs.Trails.{Ahead, IsTrail}
+use Rattle.cap_walk.proofs.OneTrail.{root_trail}
+use Rattle.cap_trace.specs.Branches.{AreSteps, StepsFrom, element_row}
+use Rattle.cap_trace.specs.TraceNames.{Step, AreBranches, path_of, place_of, rest_from, skipped, step_of, IsRow, IsTraceable}
 use Rattle.cap_trace.specs.TraceNames.{PassesAt, HasCome, HasPassed, IsBlockedAt, IsPut, ReportsPath, word_ahead, Branch, GoesBelow, IsBranch}
 use Rattle.cap_trace.specs.TraceNames.{Object, Structs, WordPlace}
 use Rattle.cap_trace.proofs.Branches.{branch_after, branches_join, element_branch, branches_split, element_taken, few_branches, nothing_left}
-use Rattle.cap_trace.proofs.Branches.{rest_append, row_fits, word_taken}
+use Rattle.cap_trace.proofs.Branches.{element_steps, last_more, rest_append, row_fits, row_spot, skipped_steps, steps_join, steps_split, word_taken}
 use Rattle.cap_trace.proofs.Numbering.{number_order}
 use Rattle.cap_trace.proofs.Onward.{next_tour, root_tour, up_to_last}
 
@@ -37,6 +37,8 @@ at_root m depth exists some = record {
   is_tour = root_tour m some;
   number = refl;
   stack = tt;
+  steps = tt;
+  last = refl;
   exists = exists;
   inside = some;
   passable = λ q b. absurd b;
@@ -53,8 +55,8 @@ passes_there m depth p l s w l' s' w' r k h =
 -- Where its pointer passes, the search goes on to what is ahead.
 passed : (m : List (List ℕ)) (depth n : ℕ) (fs gs : List Branch) (here : WordPlace) → (h : HasCome m depth n fs here)
     → PassesAt m depth here.segment here.at (length fs + 1) → IsTrail m (path_of fs ∷ h.seen) (rest_from [] 1 gs)
-    → AreBranches m depth 1 gs → HasPassed m depth n gs
-passed m depth n fs gs here h passes trail branches = record {
+    → AreBranches m depth 1 gs → AreSteps m (word 0 0) gs → HasPassed m depth n gs
+passed m depth n fs gs here h passes trail branches steps = record {
   path = path_of fs;
   seen = h.seen;
   trail = trail;
@@ -62,6 +64,7 @@ passed m depth n fs gs here h passes trail branches = record {
   is_tour = h.is_tour;
   number = h.number;
   stack = branches;
+  steps = steps;
   passable = λ q b level s w r. elim b [
     | inl e ↦ passes_there m depth (path_of fs) (length fs + 1) here.segment here.at level s w
         h.trail.ahead_reached.0 (subst (λ (u : List Step). Reaches m u level s w) e r) passes
@@ -73,7 +76,7 @@ passed m depth n fs gs here h passes trail branches = record {
 pub passed_over : (m : List (List ℕ)) (depth n : ℕ) (fs : List Branch) (here : WordPlace) → HasCome m depth n fs here
     → GoesBelow m depth here.segment here.at (length fs + 1) (Object None) → HasPassed m depth n fs
 passed_over m depth n fs here h k =
-    passed m depth n fs fs here h k.0 (k.2 h.seen (path_of fs) (rest_from [] 1 fs) h.trail) h.stack
+    passed m depth n fs fs here h k.0 (k.3 h.seen (path_of fs) (rest_from [] 1 fs) h.trail) h.stack h.steps
 
 -- and else first those of the object below.
 pub passed_into : (m : List (List ℕ)) (depth n : ℕ) (fs : List Branch) (f : Branch) (here : WordPlace) → HasCome m depth n fs here
@@ -81,8 +84,9 @@ pub passed_into : (m : List (List ℕ)) (depth n : ℕ) (fs : List Branch) (f : 
 passed_into m depth n fs f here h k =
     passed m depth n fs (fs ++ f ∷ []) here h k.0
     (subst (λ (u : List Ahead). IsTrail m (path_of fs ∷ h.seen) u) (sym (rest_append [] 1 fs (f ∷ [])))
-    (k.2 h.seen (path_of fs) (rest_from [] 1 fs) h.trail))
+    (k.3 h.seen (path_of fs) (rest_from [] 1 fs) h.trail))
     (branches_join m depth 1 fs (f ∷ []) h.stack (k.1.0, tt))
+    (steps_join m (word 0 0) fs (f ∷ []) h.steps (subst (λ (u : Spot). StepsFrom m u f) (sym h.last) k.2, tt))
 
 -- The last of these is a branch.
 pub last_branch : (m : List (List ℕ)) (depth n : ℕ) (fs : List Branch) (f : Branch) → HasPassed m depth n (fs ++ f ∷ [])
@@ -100,18 +104,18 @@ went_up m depth n fs f h none = record {
   is_tour = h.is_tour;
   number = h.number;
   stack = (branches_split m depth 1 fs (f ∷ []) h.stack).0;
+  steps = (steps_split m (word 0 0) fs (f ∷ []) h.steps).0;
   passable = h.passable;
 }
 
 -- It comes to the next word of the last row.
 pub took_word : (m : List (List ℕ)) (depth n : ℕ) (fs : List Branch) (f : Branch) → HasPassed m depth n (fs ++ f ∷ [])
-    → 0 < words_left f.form f → HasCome m depth (n + 1) (fs ++ skipped f 1 ∷ []) (place_of (skipped f 1))
-took_word m depth n fs f h some =
+    → IsRow f.form → f.taken < f.count → HasCome m depth (n + 1) (fs ++ skipped f 1 ∷ []) (place_of (skipped f 1))
+took_word m depth n fs f h row less =
     let gs = fs ++ skipped f 1 ∷ [] in
     let b = branches_split m depth 1 fs (f ∷ []) h.stack in
-    let fits = row_fits m depth (length fs + 1) f some b.1.0 in
-    let less : f.taken < f.count = omega (arith, some, fits.1) in
-    let trail = subst (λ (u : List Ahead). IsTrail m (h.path ∷ h.seen) u) (word_taken fs f some) h.trail in
+    let fits = row_fits m depth (length fs + 1) f row b.1.0 in
+    let trail = subst (λ (u : List Ahead). IsTrail m (h.path ∷ h.seen) u) (word_taken fs f row less) h.trail in
     let tour : IsTour m (path_of gs) (h.tour ++ path_of gs ∷ []) =
     next_tour m h.path h.seen (word_ahead gs (place_of (skipped f 1))) (rest_from [] 1 gs) h.tour trail h.is_tour in record {
       seen = h.path ∷ h.seen;
@@ -120,8 +124,10 @@ took_word m depth n fs f h some =
       is_tour = tour;
       number = omega (arith, h.number, length-append h.tour (path_of gs ∷ []));
       stack = branches_join m depth 1 fs (skipped f 1 ∷ []) b.0 (branch_after m depth (length fs + 1) f less b.1.0, tt);
+      steps = let s = steps_split m (word 0 0) fs (f ∷ []) h.steps in steps_join m (word 0 0) fs (skipped f 1 ∷ []) s.0 (skipped_steps m _ f s.1.0, tt);
+      last = last_more (word 0 0) fs (skipped f 1 ∷ []) ∙ row_spot f.form (skipped f 1) row;
       exists = b.1.0.exists;
-      inside = omega (arith, fits.0, less);
+      inside = omega (arith, fits, less);
       passable = λ q k level s w r. h.passable q (before (path_of gs) q k (one_of_last q (path_of gs) h.tour (tour.all q level s w r (inr k)))) level s w r;
     }
   where
@@ -144,8 +150,29 @@ took_element m depth n fs f h is some =
       stack = subst (λ (u : List Branch). AreBranches m depth 1 u) (sym (append_assoc fs (skipped f 1 ∷ []) (element_row f ∷ [])))
           (branches_join m depth 1 fs (skipped f 1 ∷ element_row f ∷ []) b.0
           (branch_after m depth (length fs + 1) f some b.1.0, (row.0, tt)));
+      steps = subst (λ (u : List Branch). AreSteps m (word 0 0) u) (sym (append_assoc fs (skipped f 1 ∷ []) (element_row f ∷ [])))
+          (let s = steps_split m (word 0 0) fs (f ∷ []) h.steps in
+          steps_join m (word 0 0) fs (skipped f 1 ∷ element_row f ∷ []) s.0 (skipped_steps m _ f s.1.0, (element_steps m f is row.1, tt)));
       passable = h.passable;
     }
+
+-- There are at most as many branches as levels.
+pub few_passed : (m : List (List ℕ)) (depth n : ℕ) (fs : List Branch) → HasPassed m depth n fs → length fs ≤ depth
+few_passed m depth n fs h = few_branches m depth fs h.stack
+
+-- The words of the last row, and those of the next element of a last list, have numbers of 32 bits.
+pub row_ends : (m : List (List ℕ)) (depth n : ℕ) (fs : List Branch) (f : Branch) → IsMessage m
+    → HasPassed m depth n (fs ++ f ∷ []) → IsRow f.form → f.start + f.count < 2 ^ 32
+row_ends m depth n fs f message h row =
+    let b = last_branch m depth n fs f h in
+    omega (arith, row_fits m depth _ f row b, short_segment m f.segment message b.exists)
+
+pub element_ends : (m : List (List ℕ)) (depth n : ℕ) (fs : List Branch) (f : Branch) → IsMessage m
+    → HasPassed m depth n (fs ++ f ∷ []) → f.form ≡ Structs → f.taken < f.count
+    → ((element_row f).start + f.pointers < 2 ^ 32) × (0 < f.pointers)
+element_ends m depth n fs f message h is some =
+    let b = element_branch m depth _ f is some (last_branch m depth n fs f h) in
+    (omega (arith, b.0.inside, short_segment m f.segment message b.0.exists), b.1)
 
 -- The path to where it is has the number that it has come to.
 pub numbered_here : (m : List (List ℕ)) (depth n : ℕ) (fs : List Branch) (here : WordPlace) → HasCome m depth n fs here
@@ -160,9 +187,10 @@ traceable_here m depth n fs here h =
     record { segment = here.segment; at = here.at; numbered = numbered_here m depth n fs here h; passable = h.passable }
 
 -- Where no words are left, no path has a higher number.
-pub none_higher : (m : List (List ℕ)) (depth n more : ℕ) (q : List Step) → HasPassed m depth n [] → n < more
-    → IsTraceable m depth more q → ⊥
-none_higher m depth n more q h less a =
+pub none_higher : (m : List (List ℕ)) (depth n more : ℕ) (fs : List Branch) (q : List Step) → HasPassed m depth n fs
+    → (0 < length fs → ⊥) → n < more → IsTraceable m depth more q → ⊥
+none_higher m depth n more (f ∷ fs) q h none less a = none (omega arith)
+none_higher m depth n more [] q h none less a =
     let p = h.path in
     let (level, s, w, r) = h.trail.seen_reached p (inl refl) in
     let here : IsNumbered m p s w n =

@@ -10,7 +10,7 @@ use Rattle.cap_spec.specs.declared.Reason.{Reason}
 use Rattle.cap_spec.proofs.Lemmas.{object-not_wrong}
 use Rattle.cap_spec.proofs.Pointers.Following.{cap-not_wrong, null-not_wrong}
 use Rattle.cap_spec.proofs.ProofNames.{Wrong}
-use Rattle.cap_trace.specs.EarlierPointers.{HaveCommon, object_places}
+use Rattle.cap_trace.specs.EarlierPointers.{HaveCommon, target_places}
 
 -- A common place of two ranges is in both.
 pub range_common : {t b t' b' : ℕ} (n n' : ℕ) → HaveCommon (places t b n) (places t' b' n')
@@ -46,7 +46,7 @@ earlier_common xs ys zs (inr (x, i, j)) = (x, place_right x xs ys i, j)
 
 -- Following uses the words of the landing pads, and those of the object.
 pub followed_used : (m : List (List ℕ)) (s w p : ℕ) (f : Followed) → HasWord m s w p → IsFollowed m s w f
-    → Occupies m s w (pads_of p ++ object_places f)
+    → Occupies m s w (pads_of p ++ target_places f)
 followed_used m s w p (Null k) has h =
     subst (λ (u : List (ℕ × ℕ)). Occupies m s w u) (sym (append-nil (pads_of p))) (p, has, inl (k, h, refl))
 followed_used m s w p (Cap k i) has h =

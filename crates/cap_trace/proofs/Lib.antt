@@ -3,11 +3,11 @@ mod Coming
 mod Common
 mod Filling
 pub mod Named
+mod NullRuns
 mod Nulls
 pub mod Numbering
 mod Objects
 mod Onward
-mod RowBranches
-mod Searching
+mod Returns
 pub mod Sharing
 pub mod Traceable

@@ -3,8 +3,8 @@ use Rattle.cap_spec.specs.declared.StrictRefusal.{StrictRefusal}
 use Rattle.cap_spec.specs.declared.StrictRefusal.TheVariants.{ManySegments, Pointer, Refused}
 use Rattle.cap_spec.proofs.ProofNames.{IfSome, List, None, Option, Some, ap, arith, inl, inr, length, option_map, refl}
 use Rattle.cap_spec.proofs.ProofNames.{subst, sym, take, ℕ, ◌∙◌, ◌≡◌, ◌≤◌, IsWithin, IsFirstFault, IsRefused, IsFirstLax}
-use Rattle.cap_vet.specs.Demands.{IsDemandFault, words_under}
-use Rattle.cap_vet.specs.declared.demands.Demands.{Demands}
+use Rattle.cap_walk.specs.Demands.{IsDemandFault, words_under}
+use Rattle.cap_walk.specs.declared.demands.Demands.{Demands}
 use Rattle.cap_trace.specs.NamedPaths.{IsTraced, fault_path, pointer_number, refused_path}
 use Rattle.cap_trace.specs.TraceNames.{Lax, Refusal, Step, IsTraceable, GivesPath, ReportsPath}
 use Rattle.cap_trace.proofs.Coming.{some_number}

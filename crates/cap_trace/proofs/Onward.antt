@@ -6,12 +6,12 @@ use Rattle.cap_spec.proofs.ProofNames.{List, [], append-nil, inl, inr, length, p
 use Rattle.cap_spec.proofs.ProofNames.{◌∷◌, ◌≡◌, ◌⊎◌, Finds, Leads, to_cap, to_null, to_object, IsOneOf, segment_of}
 use Rattle.cap_spec.proofs.ProofNames.{Before, IsTour, Reaches, Spot, StepsTo, word}
 use Rattle.cap_spec.proofs.Verdicts.OneFault.{last_is_one}
-use Rattle.cap_vet.specs.Trails.{Ahead, Apart, EachApart, Falls, IsTrail, IsUnder, Precedes}
+use Rattle.cap_walk.specs.Trails.{Ahead, Apart, EachApart, Falls, IsTrail, IsUnder, Precedes}
 use Rattle.cap_trace.specs.TraceNames.{Step, Item, Ptr}
 use Rattle.cap_trace.proofs.Numbering.{Rises-last, before_later}
 
 -- paths that are apart are in order
-apart_in_order : (p q : List Step) → Apart p q → Before p q
+pub apart_in_order : (p q : List Step) → Apart p q → Before p q
 apart_in_order [] q h = absurd h
 apart_in_order (x ∷ xs) [] h = absurd h
 apart_in_order (x ∷ xs) (y ∷ ys) (inl h) = inl h

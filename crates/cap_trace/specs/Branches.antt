@@ -1,11 +1,11 @@
 -- The steps of a search down to a pointer word, and the pointer words that come after it (profile).
-use Rattle.std.specs.Prelude.{List, [], length, map, ℕ, ⊤, ◌*◌, ◌++◌, ◌+◌, ◌-◌, ◌<◌, ◌^◌, ◌∷◌, ◌≡◌, ◌≤◌}
+use Rattle.std.specs.Prelude.{List, [], length, map, ℕ, ⊤, ◌*◌, ◌++◌, ◌+◌, ◌-◌, ◌<◌, ◌^◌, ◌∷◌, ◌≤◌}
 use Rattle.cap_spec.specs.Messages.{segment_of}
+use Rattle.cap_spec.specs.Paths.{Spot, StepsTo, element, word}
 use Rattle.cap_spec.specs.declared.Step.{Step}
 use Rattle.cap_spec.specs.declared.Step.TheVariants.{Item, Ptr}
-use Rattle.cap_vet.specs.Trails.{Ahead, element_rows, row}
+use Rattle.cap_walk.specs.Trails.{Ahead, element_rows, row}
 use Rattle.cap_trace.specs.declared.branch.Branch.{Branch}
-use Rattle.cap_trace.specs.declared.branch.Cursor.{Cursor}
 use Rattle.cap_trace.specs.declared.branch.Form.{Form}
 use Rattle.cap_trace.specs.declared.branch.Form.TheVariants.{Pointers, Struct, Structs}
 use Rattle.cap_trace.specs.declared.branch.WordPlace.{WordPlace}
@@ -42,12 +42,6 @@ abbrev pub rest_from : List Step → ℕ → List Branch → List Ahead
 rest_from base level [] = []
 rest_from base level (f ∷ branches) =
     rest_from (base ++ step_of f ∷ []) (level + 1) branches ++ rest_of base level f
-
--- how many words are left of a row
-abbrev pub words_left : Form → Branch → ℕ
-words_left Struct f = f.count - f.taken
-words_left Pointers f = f.count - f.taken
-words_left Structs f = 0
 
 -- how many words all of them take
 abbrev pub words_in : Form → Branch → ℕ
@@ -88,25 +82,32 @@ AreBranches m depth level (f ∷ branches) =
 
 -- the last word of a row that was taken
 abbrev pub place_of : Branch → WordPlace
-place_of f = record { segment = f.segment; at = f.start + f.taken - 1 }
+place_of f = record { segment = f.segment; at = f.start + (f.taken - 1) }
 
--- the branch with this number left
-abbrev pub settled : Branch → ℕ → Branch
-settled f left = record f { taken = f.count - left }
+-- where number i of them is
+abbrev pub form_spot : Form → Branch → ℕ → Spot
+form_spot Struct f i = word f.segment (f.start + i)
+form_spot Pointers f i = word f.segment (f.start + i)
+form_spot Structs f i = element f.segment (f.start + i * (f.data_words + f.pointers)) f.data_words f.pointers
 
--- the next word of a row, and how many come after it
-abbrev pub next_word : Branch → Cursor
-next_word f = record {
-  place = record { segment = f.segment; at = f.start + f.taken };
-  left = f.count - f.taken - 1;
-}
+-- where the last one is that was taken
+abbrev pub spot_of_last : Branch → Spot
+spot_of_last f = form_spot f.form f (f.taken - 1)
 
--- the word n further on in a row
-abbrev pub onward : Cursor → ℕ → Cursor
-onward here n = record {
-  place = record { segment = here.place.segment; at = here.place.at + n };
-  left = here.left - n;
-}
+-- There are some, and a step leads from the spot to each of them.
+abbrev pub StepsFrom : List (List ℕ) → Spot → Branch → Type 0
+StepsFrom m spot f =
+    (0 < f.count) × ((i : ℕ) → i < f.count → StepsTo m spot (form_step f.form i) (form_spot f.form f i))
+
+-- The first of them does so from this spot, and each other from where the last one was taken of the one before.
+abbrev pub AreSteps : List (List ℕ) → Spot → List Branch → Type 0
+AreSteps m spot [] = ⊤
+AreSteps m spot (f ∷ branches) = StepsFrom m spot f × AreSteps m (spot_of_last f) branches
+
+-- the spot at which the path over these branches ends, if it begins at this spot
+abbrev pub last_spot : Spot → List Branch → Spot
+last_spot spot [] = spot
+last_spot spot (f ∷ branches) = last_spot (spot_of_last f) branches
 
 -- the branch after n more are taken
 abbrev pub skipped : Branch → ℕ → Branch
@@ -121,12 +122,3 @@ row_branch form s start n =
 abbrev pub element_row : Branch → Branch
 element_row f =
     row_branch Struct f.segment (f.start + f.taken * (f.data_words + f.pointers) + f.data_words) f.pointers
-
--- the root word, as a row that has been taken
-abbrev pub root_row : Branch
-root_row = skipped (row_branch Struct 0 0 1) 1
-
--- The root word comes first, if there is any branch.
-abbrev pub IsRooted : List Branch → Type 0
-IsRooted [] = ⊤
-IsRooted (f ∷ branches) = f ≡ root_row

@@ -7,11 +7,8 @@ use Rattle.cap_spec.specs.Paths.{Before, IsFirst, IsNumbered}
 use Rattle.cap_spec.specs.declared.Step.{Step}
 use Rattle.cap_ptr.specs.declared.shapes.Followed.{Followed}
 use Rattle.cap_ptr.specs.declared.shapes.Followed.TheVariants.{Cap, Null, Target}
-use Rattle.cap_vet.specs.declared.nodes.place.Place.{Place}
+use Rattle.cap_ptr.specs.declared.place.Place.{Place}
 use Rattle.cap_trace.specs.PointerNumbers.{IsTraceable}
-use Rattle.cap_trace.specs.Traces.{HasCome}
-use Rattle.cap_trace.specs.declared.branch.Branch.{Branch}
-use Rattle.cap_trace.specs.declared.branch.WordPlace.{WordPlace}
 use Rattle.cap_trace.specs.declared.earlier.EarlierPointer.{EarlierPointer}
 use Rattle.cap_trace.specs.declared.used_words.UsedWords.{UsedWords}
 
@@ -53,14 +50,14 @@ abbrev pub places_in : Place → List (ℕ × ℕ)
 places_in p = places p.segment p.start p.words
 
 -- the places of landing pads and of an object
-abbrev pub places_of : UsedWords → List (ℕ × ℕ)
-places_of used = places_in used.pads ++ places_in used.object
+abbrev pub used_places : UsedWords → List (ℕ × ℕ)
+used_places used = places_in used.pads ++ places_in used.object
 
 -- the places of the object that a pointer leads to
-abbrev pub object_places : Followed → List (ℕ × ℕ)
-object_places (Null k) = []
-object_places (Cap k i) = []
-object_places (Target x) = places x.segment x.start x.words
+abbrev pub target_places : Followed → List (ℕ × ℕ)
+target_places (Null k) = []
+target_places (Cap k i) = []
+target_places (Target x) = places x.segment x.start x.words
 
 -- some place is in both lists
 abbrev pub HaveCommon : List (ℕ × ℕ) → List (ℕ × ℕ) → Type 0
@@ -87,8 +84,4 @@ IsFirstUsing m places path (Some e) = (other : List Step) × IsNumbered m other 
 -- following the pointer at s:w uses these words, or it can't be followed
 abbrev pub ReportsUsed : List (List ℕ) → ℕ → ℕ → Option UsedWords → Type 0
 ReportsUsed m s w None = (used : List (ℕ × ℕ)) → ¬ Occupies m s w used
-ReportsUsed m s w (Some used) = Occupies m s w (places_of used)
-
--- the search can come to the pointer word of number n at this place
-abbrev pub ComesTo : List (List ℕ) → ℕ → ℕ → WordPlace → Type 0
-ComesTo m depth n here = (branches : List Branch) × HasCome m depth n branches here
+ReportsUsed m s w (Some used) = Occupies m s w (used_places used)

@@ -6,8 +6,8 @@ use Rattle.cap_spec.specs.declared.Refusal.{Refusal}
 use Rattle.cap_spec.specs.declared.Step.{Step}
 use Rattle.cap_spec.specs.declared.StrictRefusal.{StrictRefusal}
 use Rattle.cap_spec.specs.declared.StrictRefusal.TheVariants.{ManySegments, Pointer, Refused}
-use Rattle.cap_vet.specs.Demands.{IsDemandFault, words_under}
-use Rattle.cap_vet.specs.declared.demands.Demands.{Demands}
+use Rattle.cap_walk.specs.Demands.{IsDemandFault, words_under}
+use Rattle.cap_walk.specs.declared.demands.Demands.{Demands}
 use Rattle.cap_trace.specs.PointerNumbers.{IsTraceable}
 use Rattle.cap_trace.specs.Traces.{IsMissing}
 

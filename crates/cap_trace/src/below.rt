@@ -1,18 +1,18 @@
-//! What a pointer word leads to, as the object that the way goes on through.
+//! What a pointer word leads to, as the object that the search goes on through.
 
+ghost use Rattle.cap_ptr.specs.Levels.{levels_of};
 ghost use Rattle.cap_ptr.specs.Shapes.{FindsTarget, FindsTargetBy};
 ghost use Rattle.cap_spec.specs.Messages.{IsMessage, segment_of};
 ghost use Rattle.cap_spec.specs.declared.Step.{Step};
-ghost use Rattle.cap_trace.specs.Traces.{GoesBelow, OptionBranch, words_of_object};
-ghost use Rattle.cap_vet.specs.Levels.{levels_of};
-ghost use Rattle.cap_vet.specs.Looking.{object_children};
-ghost use Rattle.std.specs.Prelude.{◌+◌, ◌<◌, ◌^◌, ◌≡◌, ◌≤◌, List, length, ℕ};
+ghost use Rattle.cap_trace.specs.Traces.{GoesBelow, OptionBranch, OptionSteps, words_of_object};
+ghost use Rattle.cap_walk.specs.Looking.{object_children};
+ghost use Rattle.std.specs.Prelude.{◌+◌, ◌<◌, ◌≡◌, ◌≤◌, List, length, ℕ};
 
 use crate::branch::{Branch, Form, WordPlace};
 use cap_frame::Segments;
-use cap_ptr::{Followed, Shape, Target, follow};
+use cap_ptr::{Followed, Shape, Target, follow, levels_taken};
 
-/// Where a way goes on after a pointer word.
+/// Where the search goes on after a pointer word.
 pub(crate) enum Below {
     /// Through the object that the pointer leads to, if it has pointers.
     Object(Option<Branch>),
@@ -20,8 +20,7 @@ pub(crate) enum Below {
     Blocked,
 }
 
-/// Where a way goes on after the pointer word at this place, which leads to this level.
-#[inline(always)]
+/// Where the search goes on after the pointer word at this place, which leads to this level.
 pub(crate) fn look_below<M: Segments>(
     message: &M,
     depth: u32,
@@ -33,7 +32,11 @@ pub(crate) fn look_below<M: Segments>(
     requires level { level ≤ 257 }
     ensures { GoesBelow (M.segments message.now) depth from.now.segment from.now.at level result }
 {
-    match follow(message, from.segment, from.word()) {
+    // Most pointers of a list may be null, and `follow` takes longer to say so (docs/internals/speed.md).
+    if message.word(from.segment, from.at) == 0 {
+        return Below::Object(None);
+    }
+    match follow(message, from.segment, from.at) {
         Ok(Followed::Target(target)) => below_target(&target, depth, level),
         Ok(Followed::Null { .. }) => Below::Object(None),
         Ok(Followed::Cap { .. }) => Below::Object(None),
@@ -41,9 +44,8 @@ pub(crate) fn look_below<M: Segments>(
     }
 }
 
-/// The same of a word that leads to this target.
-#[inline(always)]
-pub(crate) fn below_target(target: &Target, depth: u32, level: u32) -> Below
+// The same of a word that leads to this target.
+fn below_target(target: &Target, depth: u32, level: u32) -> Below
     requires found { (m : List (List ℕ)) × (s w : ℕ) × IsMessage m × FindsTarget m s w target.now }
     requires level { level ≤ 257 }
     ensures { (m : List (List ℕ)) (s w : ℕ) → FindsTarget m s w target.now →
@@ -55,20 +57,7 @@ pub(crate) fn below_target(target: &Target, depth: u32, level: u32) -> Below
     Below::Object(branch_of(target))
 }
 
-// How many levels an object takes below its own.
-#[inline(always)]
-fn levels_taken(shape: &Shape) -> u32
-    ensures value { result ≡ levels_of shape.now }
-    ensures few { result ≤ 1 }
-{
-    match shape {
-        Shape::Structs { count, .. } => { if *count == 0 { 0 } else { 1 } }
-        _ => 0,
-    }
-}
-
 // The pointer words of an object, if it has pointers.
-#[inline(always)]
 fn branch_of(target: &Target) -> Option<Branch>
     requires found { (m : List (List ℕ)) × (s w q tag : ℕ) × IsMessage m
         × FindsTargetBy m s w q tag target.now }
@@ -78,6 +67,8 @@ fn branch_of(target: &Target) -> Option<Branch>
     ensures branch { (m : List (List ℕ)) (s w q tag depth level : ℕ) →
         FindsTargetBy m s w q tag target.now → level + levels_of target.now.shape ≤ depth →
         OptionBranch m depth level result }
+    ensures steps { (m : List (List ℕ)) (s w q tag : ℕ) → FindsTargetBy m s w q tag target.now →
+        OptionSteps m s w result }
 {
     let (segment, start) = (target.segment, target.start);
     match target.shape {

@@ -1,7 +1,7 @@
 //! A step on the way down to a pointer word, and the words that come after it.
 
-ghost use Rattle.cap_trace.specs.Branches.{IsCounted, element_row, next_word, root_row, row_branch, skipped, step_of};
-ghost use Rattle.std.specs.Prelude.{◌+◌, ◌<◌, ◌^◌, ◌≡◌};
+ghost use Rattle.cap_trace.specs.Branches.{IsCounted, element_row, place_of, row_branch, skipped, step_of};
+ghost use Rattle.std.specs.Prelude.{◌+◌, ◌-◌, ◌<◌, ◌^◌, ◌≡◌, ◌≤◌};
 
 use cap_spec::Step;
 
@@ -21,49 +21,15 @@ pub(crate) enum Form {
 #[derive(Clone, Copy, Drop)]
 pub(crate) struct WordPlace {
     pub(crate) segment: u32,
-    // Below 2^32. In 64 bits the processor needn't extend it before each load.
-    pub(crate) at: u64,
-}
-
-impl WordPlace {
-    /// Its number in its segment.
-    #[inline(always)]
-    pub(crate) fn word(&self) -> u32
-        requires { self.now.at < 2 ^ 32 }
-        ensures { result ≡ self.now.at }
-    {
-        self.at as u32
-    }
-}
-
-/// The pointer word that a search is at, and how many words of its row come after it.
-#[derive(Clone, Copy, Drop)]
-pub(crate) struct Cursor {
-    pub(crate) place: WordPlace,
-    pub(crate) left: u32,
-}
-
-impl Cursor {
-    /// The same cursor. The bytes between its fields aren't copied: in a loop they take registers.
-    #[inline(always)]
-    pub(crate) fn copied(&self) -> Cursor
-        ensures { result ≡ self.now }
-    {
-        let WordPlace { segment, at } = self.place;
-        Cursor {
-            place: WordPlace { segment, at },
-            left: self.left,
-        }
-    }
+    pub(crate) at: u32,
 }
 
 /// The pointers of an object, or the elements of a list of structs, in their order. The last one that
 /// was taken is the step of a path. Pointers have no word between them: they are a row.
 #[derive(Clone, Copy, Default)]
 pub(crate) struct Branch {
-    // These two share four bytes, so that a branch has 20.
     pub(crate) form: Form,
-    pub(crate) segment: u16,
+    pub(crate) segment: u32,
     /// The word where they start.
     pub(crate) start: u32,
     /// How many there are.
@@ -78,14 +44,12 @@ pub(crate) struct Branch {
 
 impl Branch {
     /// A row of `count` pointers from this word on, of which none is taken.
-    #[inline(always)]
     pub(crate) fn row(form: Form, segment: u32, start: u32, count: u32) -> Branch
-        requires { segment < 2 ^ 16 }
         ensures { result ≡ row_branch form segment start count }
     {
         Branch {
             form,
-            segment: segment as u16,
+            segment,
             start,
             count,
             taken: 0,
@@ -94,49 +58,39 @@ impl Branch {
         }
     }
 
-    /// The root word, as a row that has been taken.
-    #[inline(always)]
-    pub(crate) fn root() -> Branch
-        ensures { result ≡ root_row }
-    {
-        Branch {
-            taken: 1,
-            ..Branch::row(Form::Struct, 0, 0, 1)
-        }
-    }
-
-    /// The next word of a row, and how many come after it.
-    #[inline(always)]
-    pub(crate) fn next_word(&self) -> Cursor
-        requires some { self.now.taken < self.now.count }
-        requires place { self.now.start + self.now.count < 2 ^ 32 }
-        ensures { result ≡ next_word self.now }
-    {
-        Cursor {
-            place: WordPlace {
-                segment: u32::from(self.segment),
-                at: u64::from(self.start + self.taken),
-            },
-            left: self.count - self.taken - 1,
-        }
-    }
-
-    /// Takes the next element, and gives the row of its pointers.
-    #[inline(always)]
-    pub(crate) fn take_element(&mut self) -> Branch
-        requires some { self.old.taken < self.old.count }
-        requires place { (element_row self.old).start + self.old.pointers < 2 ^ 32 }
-        ensures row { result ≡ element_row self.old }
-        ensures after { self.new ≡ skipped self.old 1 }
+    /// The row of the pointers of the next element.
+    pub(crate) fn element(&self) -> Branch
+        requires { (element_row self.now).start + self.now.pointers < 2 ^ 32 }
+        ensures { result ≡ element_row self.now }
     {
         let (data_words, pointers) = (u32::from(self.data_words), u32::from(self.pointers));
-        let at = self.start + self.taken * (data_words + pointers) + data_words;
-        self.taken += 1;
-        Branch::row(Form::Struct, u32::from(self.segment), at, pointers)
+        let start = self.start + self.taken * (data_words + pointers) + data_words;
+        Branch::row(Form::Struct, self.segment, start, pointers)
+    }
+
+    /// The same branch after so many more are taken.
+    pub(crate) fn taken_more(&self, more: u32) -> Branch
+        requires { self.now.taken + more ≤ self.now.count }
+        ensures { result ≡ skipped self.now more }
+    {
+        Branch {
+            taken: self.taken + more,
+            ..*self
+        }
+    }
+
+    /// The place of the last word of a row that was taken.
+    pub(crate) fn place(&self) -> WordPlace
+        requires { self.now.start + (self.now.taken - 1) < 2 ^ 32 }
+        ensures { result ≡ place_of self.now }
+    {
+        WordPlace {
+            segment: self.segment,
+            at: self.start + self.taken.saturating_sub(1),
+        }
     }
 
     /// The step to the last one that was taken.
-    #[inline(always)]
     pub(crate) fn step(&self) -> Step
         requires { IsCounted self.now.form self.now }
         ensures { result ≡ step_of self.now }

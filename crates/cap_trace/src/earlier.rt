@@ -3,17 +3,15 @@
 ghost use Rattle.cap_spec.specs.Accepting.{IsWithin};
 ghost use Rattle.cap_spec.specs.Occupying.{IsFirstOverlap};
 ghost use Rattle.cap_spec.specs.declared.Step.{Step};
-ghost use Rattle.cap_trace.specs.EarlierPointers.{ComesTo, IsEarlier, IsEarlierOf, IsFirstUsing, ReportsEarlier, places_of};
+ghost use Rattle.cap_trace.specs.EarlierPointers.{IsEarlier, IsEarlierOf, IsFirstUsing, ReportsEarlier, used_places};
 ghost use Rattle.cap_trace.specs.PointerNumbers.{IsTraceable};
-ghost use Rattle.cap_trace.specs.Traces.{IsMissing};
-ghost use Rattle.cap_vet.specs.Limits.{depth_of};
-ghost use Rattle.std.specs.Prelude.{◌≡◌, ◌≤◌, IfSome, List, None, Some, ℕ};
+ghost use Rattle.cap_walk.specs.Limits.{depth_of};
+ghost use Rattle.std.specs.Prelude.{◌≡◌, ◌≤◌, [], List, Some, ℕ};
 
-use crate::branch::WordPlace;
-use crate::seeking::{BranchStack, pass, seek, start};
+use crate::seeking::{BranchStack, ROOT, pass, pass_nulls, seek};
 use crate::used_words::{UsedWords, uses_one};
 use cap_frame::Segments;
-use cap_vet::Limits;
+use cap_walk::Limits;
 
 /// The first pointer that uses a word which a later pointer uses too.
 #[derive(Clone, Copy, Debug, PartialEq, Eq, Drop)]
@@ -25,9 +23,6 @@ pub struct EarlierPointer {
     /// Its number in preorder, where the root word is number 1.
     pub pointers: u64,
 }
-
-/// The root word, and the most steps to a pointer word.
-const BRANCHES: usize = 257;
 
 /// The first pointer in preorder that uses a word which the pointer word of this number uses too.
 /// `number` may be the `pointers` of an overlap. A pointer uses its landing pads and the words of its
@@ -55,61 +50,51 @@ pub fn earlier_pointer<M: Segments>(
     earlier_within(message, limits.depth(), number)
 }
 
-// The same by the depth limit alone.
+// The same by the depth limit alone. Its stack of branches is no part of a caller's frame.
+#[inline(never)]
 fn earlier_within<M: Segments>(message: &M, depth: u32, number: u64) -> Option<EarlierPointer>
     requires { depth ≤ 256 }
     ensures { ReportsEarlier (M.segments message.now) depth number result }
 {
-    let named = word_of_number(message, depth, number)?;
-    let used = UsedWords::at(message, named.segment, named.word())?;
-    first_using(message, depth, number, &used)
-}
-
-// The pointer word of this number. `None` if it can't be traced.
-#[inline(never)]
-fn word_of_number<M: Segments>(message: &M, depth: u32, number: u64) -> Option<WordPlace>
-    requires { depth ≤ 256 }
-    ensures some { IfSome result (ComesTo (M.segments message.now) depth number) }
-    ensures none { result ≡ None → IsMissing (M.segments message.now) depth number }
-{
-    if number == 0 || message.len(0) == 0 {
-        return None;
-    }
-    let mut branches: BranchStack<BRANCHES> = BranchStack::new();
-    seek(message, depth, number, &mut branches)
+    let mut branches = BranchStack::new();
+    let named = seek(message, depth, number, &mut branches)?;
+    let used = UsedWords::at(message, named.segment, named.at)?;
+    branches.clear();
+    first_using(message, depth, number, &used, &mut branches)
 }
 
 // The first pointer that uses one of these words, of those before the word of this number.
-#[inline(never)]
 fn first_using<M: Segments>(
     message: &M,
     depth: u32,
     number: u64,
     used: &UsedWords,
+    branches: &mut BranchStack,
 ) -> Option<EarlierPointer>
     requires shallow { depth ≤ 256 }
+    requires start { branches.old.items ≡ [] }
     requires traced { (path : List Step) × IsTraceable (M.segments message.now) depth number path }
     ensures { let m = M.segments message.now in (path : List Step) →
-        IsTraceable m depth number path → IsFirstUsing m (places_of used.now) path result }
+        IsTraceable m depth number path → IsFirstUsing m (used_places used.now) path result }
 {
-    let mut branches: BranchStack<BRANCHES> = BranchStack::new();
-    let mut here = start(&mut branches);
+    let mut here = ROOT;
     let mut at = 1;
     'words: loop {
+        at += pass_nulls(message, number - at, branches, &mut here);
         if at == number {
             return None;
         }
-        let (segment, word) = (here.place.segment, here.place.word());
-        if uses_one(message, segment, word, used) {
+        if uses_one(message, here.segment, here.at, used) {
             return Some(EarlierPointer {
-                segment,
-                word,
+                segment: here.segment,
+                word: here.at,
                 pointers: at,
             });
         }
-        // The word of this number comes later.
-        if pass(message, depth, 1, &mut branches, &mut here) == 0 {
-            unreachable!();
+        match pass(message, depth, branches, &here) {
+            Some(next) => here = next,
+            // The word of this number comes later.
+            None => unreachable!(),
         }
         at += 1;
     }

@@ -4,14 +4,12 @@ ghost use Rattle.cap_trace.specs.NamedPaths.{pointer_number};
 ghost use Rattle.std.specs.Prelude.{◌≡◌};
 
 use crate::earlier::{EarlierPointer, earlier_pointer};
+use crate::seeking::STEPS;
 use crate::tracing::path_of_pointer;
 use cap_frame::Segments;
 use cap_spec::{Step, StrictRefusal};
-use cap_vet::Limits;
+use cap_walk::Limits;
 use std::marker::Model;
-
-/// The most steps of a path to a pointer: no limit allows a deeper level.
-const STEPS: usize = 256;
 
 /// The path to the pointer that a refusal or an overlap names, if it names one. A caller may keep
 /// one for many messages.
@@ -34,9 +32,9 @@ impl Model for NamedPath {
 }
 
 impl NamedPath {
+    ghost use Rattle.cap_spec.specs.Accepting.{IsWithin};
     ghost use Rattle.cap_spec.specs.Faults.{IsFirstFault};
     ghost use Rattle.cap_spec.specs.Occupying.{IsFirstOverlap};
-    ghost use Rattle.cap_spec.specs.Accepting.{IsWithin};
     ghost use Rattle.cap_spec.specs.Strict.{IsFirstLax};
     ghost use Rattle.cap_spec.specs.declared.Lax.{Lax};
     ghost use Rattle.cap_spec.specs.declared.Refusal.{Refusal};
@@ -45,9 +43,9 @@ impl NamedPath {
     ghost use Rattle.cap_trace.specs.NamedPaths.{IsTraced, fault_path};
     ghost use Rattle.cap_trace.specs.PointerNumbers.{IsTraceable};
     ghost use Rattle.cap_trace.specs.Traces.{IsMissing};
-    ghost use Rattle.cap_vet.specs.Demands.{IsDemandFault};
-    ghost use Rattle.cap_vet.specs.Limits.{depth_of};
-    ghost use Rattle.cap_vet.specs.declared.demands.Demands.{Demands};
+    ghost use Rattle.cap_walk.specs.Demands.{IsDemandFault};
+    ghost use Rattle.cap_walk.specs.Limits.{depth_of};
+    ghost use Rattle.cap_walk.specs.declared.demands.Demands.{Demands};
     ghost use Rattle.std.specs.Option.{option_map};
     ghost use Rattle.std.specs.Prelude.{◌≡◌, List, None, Some, ℕ};
 

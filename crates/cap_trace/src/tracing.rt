@@ -2,7 +2,6 @@
 
 ghost use Rattle.cap_spec.specs.Accepting.{IsWithin};
 ghost use Rattle.cap_spec.specs.Faults.{IsFirstFault};
-ghost use Rattle.cap_spec.specs.Messages.{segment_of};
 ghost use Rattle.cap_spec.specs.Occupying.{IsFirstOverlap};
 ghost use Rattle.cap_spec.specs.Strict.{IsFirstLax};
 ghost use Rattle.cap_spec.specs.declared.Lax.{Lax};
@@ -11,14 +10,14 @@ ghost use Rattle.cap_spec.specs.declared.Step.{Step};
 ghost use Rattle.cap_trace.specs.Branches.{AreBranches, path_of};
 ghost use Rattle.cap_trace.specs.PointerNumbers.{IsTraceable};
 ghost use Rattle.cap_trace.specs.Traces.{GivesPath, IsPut, ReportsPath};
-ghost use Rattle.cap_vet.specs.Limits.{depth_of};
-ghost use Rattle.std.specs.Prelude.{◌<◌, ◌≡◌, ◌≤◌, IfSome, List, length, ℕ};
+ghost use Rattle.cap_walk.specs.Limits.{depth_of};
+ghost use Rattle.std.specs.Prelude.{◌≡◌, ◌≤◌, IfSome, List, length, ℕ};
 
 use crate::branch::Branch;
 use crate::seeking::{BranchStack, seek};
 use crate::slot::StepSlot;
 use cap_frame::Segments;
-use cap_vet::Limits;
+use cap_walk::Limits;
 
 /// Writes the path to the pointer word of this number in preorder, where the root word is number 1,
 /// and returns how many steps it has. These are at most as many as the depth limit has levels.
@@ -27,8 +26,6 @@ use cap_vet::Limits;
 ///
 /// `None` if the message has no such word, or if a pointer before it can't be followed or leads past
 /// the depth limit. The buffer is then unchanged. The word limit has no effect. Allocates nothing.
-// It is not inlined, so that its loop has all registers.
-#[inline(never)]
 pub fn path_of_pointer<M: Segments, S: StepSlot>(
     message: &M,
     limits: Limits,
@@ -57,7 +54,8 @@ pub fn path_of_pointer<M: Segments, S: StepSlot>(
     traced(message, limits.depth(), number, steps)
 }
 
-// The same by the depth limit alone.
+// The same by the depth limit alone. Its stack of branches is no part of a caller's frame.
+#[inline(never)]
 fn traced<M: Segments, S: StepSlot>(
     message: &M,
     depth: u32,
@@ -68,40 +66,14 @@ fn traced<M: Segments, S: StepSlot>(
     ensures reports { ReportsPath S.slot (M.segments message.now) depth number steps.old result steps.new }
     ensures few { IfSome result (λ count. count ≤ depth) }
 {
-    if number == 0 || message.len(0) == 0 {
-        return None;
-    }
-    // A search initializes its branches. The default depth limit is 64.
-    if depth <= 64 {
-        return traced_within::<M, S, 65>(message, depth, number, steps);
-    }
-    traced_within::<M, S, 257>(message, depth, number, steps)
-}
-
-// The same of a message with a root word, with capacity for it and for fewer than `N` steps.
-#[inline(always)]
-fn traced_within<M: Segments, S: StepSlot, const N: usize>(
-    message: &M,
-    depth: u32,
-    number: u64,
-    steps: &mut [S],
-) -> Option<usize>
-    requires space { (depth < N) × (N ≤ 257) }
-    requires counted { 0 < number }
-    requires root { 0 < length (segment_of (M.segments message.now) 0) }
-    ensures reports { ReportsPath S.slot (M.segments message.now) depth number steps.old result steps.new }
-    ensures few { IfSome result (λ count. count ≤ depth) }
-{
-    let mut branches: BranchStack<N> = BranchStack::new();
+    let mut branches = BranchStack::new();
     match seek(message, depth, number, &mut branches) {
-        Some(_) => Some(write_path(&branches.as_slice()[1..], steps)),
+        Some(_) => Some(write_path(branches.as_slice(), steps)),
         None => None,
     }
 }
 
-// Writes the path over these branches to the start of the buffer, if it fits. Gives how many steps it
-// has. The search doesn't share its registers.
-#[inline(never)]
+// Writes the path over these branches to the start of the buffer, if it fits. Gives how many steps it has.
 fn write_path<S: StepSlot>(branches: &[Branch], steps: &mut [S]) -> usize
     requires { (m : List (List ℕ)) × (depth : ℕ) × AreBranches m depth 1 branches.now }
     ensures count { result ≡ length (path_of branches.now) }

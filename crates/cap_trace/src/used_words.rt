@@ -2,19 +2,11 @@
 
 ghost use Rattle.cap_spec.specs.Messages.{segment_of};
 ghost use Rattle.cap_spec.specs.Occupying.{pads_of};
-ghost use Rattle.cap_trace.specs.EarlierPointers.{HaveCommon, ReportsUsed, UsesOneAt, object_places, places_in, places_of};
-ghost use Rattle.std.specs.Prelude.{◌<◌, ◌≡◌, ◌↔◌, [], IsTrue, length};
+ghost use Rattle.cap_trace.specs.EarlierPointers.{HaveCommon, ReportsUsed, UsesOneAt, target_places, places_in, used_places};
+ghost use Rattle.std.specs.Prelude.{◌<◌, ◌≡◌, ◌↔◌, IsTrue, length};
 
 use cap_frame::Segments;
-use cap_ptr::{Followed, far_segment, follow, kind, pad, two};
-use cap_vet::Place;
-
-/// No words.
-const NO_WORDS: Place = Place {
-    segment: 0,
-    start: 0,
-    words: 0,
-};
+use cap_ptr::{Followed, Place, far_segment, follow, kind, pad, two};
 
 /// The words that following a pointer uses: those of its landing pads and those of its object.
 #[derive(Clone, Copy, Drop)]
@@ -41,14 +33,14 @@ impl UsedWords {
 
     /// Whether some word is one of these and one of the others.
     fn meet(&self, others: &UsedWords) -> bool
-        ensures { IsTrue result ↔ HaveCommon (places_of self.now) (places_of others.now) }
+        ensures { IsTrue result ↔ HaveCommon (used_places self.now) (used_places others.now) }
     {
         others.meet_range(&self.pads) || others.meet_range(&self.object)
     }
 
     // Whether some word of this range is one of these.
     fn meet_range(&self, range: &Place) -> bool
-        ensures { IsTrue result ↔ HaveCommon (places_in range.now) (places_of self.now) }
+        ensures { IsTrue result ↔ HaveCommon (places_in range.now) (used_places self.now) }
     {
         overlap(range, &self.pads) || overlap(range, &self.object)
     }
@@ -58,7 +50,7 @@ impl UsedWords {
 pub(crate) fn uses_one<M: Segments>(message: &M, s: u32, w: u32, words: &UsedWords) -> bool
     requires exists { s < length (M.segments message.now) }
     requires inside { w < length (segment_of (M.segments message.now) s) }
-    ensures { IsTrue result ↔ UsesOneAt (M.segments message.now) s w (places_of words.now) }
+    ensures { IsTrue result ↔ UsesOneAt (M.segments message.now) s w (used_places words.now) }
 {
     match UsedWords::at(message, s, w) {
         Some(used) => used.meet(words),
@@ -68,15 +60,11 @@ pub(crate) fn uses_one<M: Segments>(message: &M, s: u32, w: u32, words: &UsedWor
 
 // The words of the object that a pointer leads to.
 fn object_at(followed: &Followed) -> Place
-    ensures { places_in result ≡ object_places followed.now }
+    ensures { places_in result ≡ target_places followed.now }
 {
     match followed {
-        Followed::Target(target) => Place {
-            segment: target.segment,
-            start: target.start,
-            words: target.words,
-        },
-        Followed::Null { .. } | Followed::Cap { .. } => NO_WORDS,
+        Followed::Target(target) => Place::of(target),
+        Followed::Null { .. } | Followed::Cap { .. } => Place::NONE,
     }
 }
 
@@ -85,7 +73,7 @@ fn pads_at(word: u64) -> Place
     ensures { places_in result ≡ pads_of word }
 {
     if kind(word) != 2 {
-        return NO_WORDS;
+        return Place::NONE;
     }
     Place {
         segment: far_segment(word),

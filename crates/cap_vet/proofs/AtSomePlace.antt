@@ -4,8 +4,9 @@ use Rattle.cap_spec.proofs.Frames.Messages.{short_segment}
 use Rattle.cap_spec.proofs.ProofNames.{List, Some, arith, length, subst, ℕ, ◌*◌, ◌+◌, ◌<◌, ◌^◌, ◌≡◌, ◌≤◌, ∥∥₁_elim}
 use Rattle.cap_spec.proofs.ProofNames.{∥∥₁_map, props, IsMessage, segment_of, Spot, rules}
 use Rattle.cap_vet.specs.Finding.{IsAtSomePlace, StepLeads}
-use Rattle.cap_vet.specs.VetNames.{Step, IsFound, own_words, HasFound, SomeArrives, Arrival, Found, Way, To}
-use Rattle.cap_vet.specs.Ways.{IsSomeWay}
+use Rattle.cap_vet.specs.VetNames.{Step, IsFound, own_words, Arrival, Found, PathEnd, To}
+use Rattle.cap_vet.specs.PathEnds.{HasFound, SomeArrives}
+use Rattle.cap_vet.specs.PathEnds.{IsSomePathEnd}
 use Rattle.cap_vet.specs.declared.nodes.spot.Spot.TheVariants.{Word}
 use Rattle.cap_vet.proofs.Charging.{arrives_low}
 use Rattle.cap_vet.proofs.Stepping.{element_inside, elements_inside, entry_inside}
@@ -72,17 +73,17 @@ module _ (m : List (List ℕ)) (words depth : ℕ) (at : Arrival) (h : SomeArriv
   arrival_elements n d p e =
       ∥∥₁_elim h (hlevel props) (λ x. elements_inside m x.1 at.found n d p x.2.found e)
 
--- A way to something is one that some path arrives by.
-pub way_arrives : (m : List (List ℕ)) (words depth : ℕ) {way : Way} (at : Arrival) → IsSomeWay m words depth way → way ≡ To at
+-- Some path arrives at what a path end leads to.
+pub end_arrives : (m : List (List ℕ)) (words depth : ℕ) {end : PathEnd} (at : Arrival) → IsSomePathEnd m words depth end → end ≡ To at
     → SomeArrives m words depth at
-way_arrives m words depth at h e =
-    ∥∥₁_map (subst (λ (x : Way). IsSomeWay m words depth x) e h) (λ x. (x.0, x.1.0, x.1.1))
+end_arrives m words depth at h e =
+    ∥∥₁_map (subst (λ (x : PathEnd). IsSomePathEnd m words depth x) e h) (λ x. (x.0, x.1.0, x.1.1))
 
 -- what it leads to is found
-pub way_found : (m : List (List ℕ)) (words depth : ℕ) (way : Way) → IsSomeWay m words depth way → HasFound m way
-way_found m words depth (To at) h = ∥∥₁_map h (λ x. (x.1.0, x.1.1.found))
-way_found m words depth way h = search rules
+pub end_found : (m : List (List ℕ)) (words depth : ℕ) (end : PathEnd) → IsSomePathEnd m words depth end → HasFound m end
+end_found m words depth (To at) h = ∥∥₁_map h (λ x. (x.1.0, x.1.1.found))
+end_found m words depth end h = search rules
 
-module _ (m : List (List ℕ)) (way : Way) (at : Arrival) (e : way ≡ To at) (h : HasFound m way) where
+module _ (m : List (List ℕ)) (end : PathEnd) (at : Arrival) (e : end ≡ To at) (h : HasFound m end) where
   there : HasFound m (To at)
-  there = subst (λ (x : Way). HasFound m x) e h
+  there = subst (λ (x : PathEnd). HasFound m x) e h

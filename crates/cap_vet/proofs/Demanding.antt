@@ -3,11 +3,10 @@ use Rattle.cap_spec.proofs.Lemmas.{within_not_refused}
 use Rattle.cap_spec.proofs.ProofNames.{IsTrue, List, Option, [], subst, ℕ, ◌≡◌, IsMessage, IsStrict, IsStrictFault}
 use Rattle.cap_spec.proofs.ProofNames.{length, rules}
 use Rattle.cap_spec.proofs.Strict.Faults.{one_strict_fault, strict_not_fault}
-use Rattle.cap_vet.specs.Demands.{IsMet}
+use Rattle.cap_walk.specs.Demands.{IsMet}
 use Rattle.cap_vet.specs.VetNames.{StrictRefusal, Pointer, IsDemandFault, Meets, words_under, Demands, HasNoFaultBy}
-use Rattle.cap_vet.specs.VetNames.{HasWalked, IsAccepted, IsFaultBy, KnowsLax, Ahead, LaxPointer, Report, Step}
+use Rattle.cap_vet.specs.VetNames.{IsAccepted, IsFaultBy, IsTrail, KnowsLax, LaxPointer, Report, Step}
 use Rattle.cap_vet.proofs.Laxness.{fault_at_end, strict_at_end, within_of}
-use Rattle.cap_vet.proofs.Verdicts.{accepted_at_end}
 
 -- each is a reason not to be strict
 fault_of : (demands : Demands) (m : List (List ℕ)) (words depth : ℕ) (fault : StrictRefusal)
@@ -51,23 +50,23 @@ module _ (demands : Demands) (m : List (List ℕ)) (words depth limit levels : �
   strict_meets fault h k = search (rules, strict_not_fault, fault_of)
 
   -- At its end a walk has met them,
-  pub met_at_end : {report : Report} (seen : List (List Step)) (ahead : List Ahead) (first : Option LaxPointer)
-      → HasWalked m limit levels [] report seen ahead → KnowsLax m seen first → HasNoFaultBy demands (length m) first
+  pub met_at_end : {report : Report} (seen : List (List Step)) (first : Option LaxPointer)
+      → IsAccepted m limit levels report → IsTrail m seen [] → KnowsLax m seen first → HasNoFaultBy demands (length m) first
       → IsMet demands m words depth report
-  met_at_end {report} seen ahead first w k none =
-      let accepted = subst (λ u. IsAccepted m u depth report) same (subst (λ u. IsAccepted m limit u report) deep (accepted_at_end seen ahead w)) in (
+  met_at_end {report} seen first a t k none =
+      let accepted = subst (λ u. IsAccepted m u depth report) same (subst (λ u. IsAccepted m limit u report) deep a) in (
         accepted,
         record {
           within = within_of m (words_under demands m words) depth report accepted;
           strict = λ demanded.
               let h = none demanded in
               subst (λ u. IsStrict m u depth) same (subst (λ u. IsStrict m limit u) deep
-              (strict_at_end seen ahead w (subst (λ (u : Option LaxPointer). KnowsLax m seen u) h.1 k) h.0));
+              (strict_at_end seen a t (subst (λ (u : Option LaxPointer). KnowsLax m seen u) h.1 k) h.0));
         },
       )
 
   -- or has a fault.
-  pub demand_fault_at_end : {report : Report} (seen : List (List Step)) (ahead : List Ahead) (first : Option LaxPointer) (fault : StrictRefusal)
-      → IsMessage m → HasWalked m limit levels [] report seen ahead → KnowsLax m seen first → IsFaultBy demands (length m) first fault
+  pub demand_fault_at_end : {report : Report} (seen : List (List Step)) (first : Option LaxPointer) (fault : StrictRefusal)
+      → IsMessage m → IsAccepted m limit levels report → KnowsLax m seen first → IsFaultBy demands (length m) first fault
       → IsDemandFault demands m words depth fault
-  demand_fault_at_end {report} seen ahead first fault message w k f = search (rules, fault_demanded, strict_demanded, fault_at_end, within_of, accepted_at_end)
+  demand_fault_at_end {report} seen first fault message a k f = search (rules, fault_demanded, strict_demanded, fault_at_end, within_of)

@@ -3,14 +3,15 @@ use Rattle.cap_spec.proofs.Lemmas.{none_of_disjoint, one_overlap, one_refusal}
 use Rattle.cap_spec.proofs.ProofNames.{List, ap, ap₂, arith, inl, refl, sym, ℕ, ◌∙◌, ◌≡◌, ◌≤◌, ◌⊎◌, IsDisjoint}
 use Rattle.cap_spec.proofs.ProofNames.{IsFirstOverlap, rules}
 use Rattle.cap_vet.specs.Exclusives.{IsExclusiveRefusal}
-use Rattle.cap_vet.specs.VetNames.{Demands, IsExclusiveFault, IsAccepted, Meets, marks_of, BufferTooSmall, Overlap}
+use Rattle.cap_vet.specs.VetNames.{Demands, IsExclusiveFault, IsAccepted, Meets, marks_of}
+use Rattle.cap_vet.specs.declared.exclusiveness.exclusive_buffer.ExclusiveFault.TheVariants.{BufferTooSmall, Overlap}
 use Rattle.cap_vet.specs.VetNames.{Report}
 use Rattle.cap_vet.specs.declared.exclusiveness.exclusive_buffer.ExclusiveFault.{ExclusiveFault}
 use Rattle.cap_vet.specs.declared.exclusiveness.exclusive_buffer.ExclusiveFault.TheVariants.{Refused}
 use Rattle.cap_vet.specs.declared.exclusiveness.exclusive_vetting.ExclusiveRefusal.{ExclusiveRefusal}
 use Rattle.cap_vet.specs.declared.exclusiveness.exclusive_vetting.ExclusiveRefusal.TheVariants as refusal
 use Rattle.cap_vet.proofs.Demanding.{no_fault_under}
-use Rattle.cap_vet.proofs.OneReport.{not_both, one_report}
+use Rattle.cap_walk.proofs.OneReport.{not_both, one_report}
 
 -- there is one fault,
 pub one_exclusive_fault : (m : List (List ℕ)) (words depth capacity : ℕ) (a b : ExclusiveFault)

@@ -4,8 +4,8 @@ use Rattle.cap_spec.proofs.ProofNames.{List, [], arith, inl, inr, length, refl, 
 use Rattle.cap_spec.proofs.ProofNames.{IsOneOf, IsDisjoint, IsFirstOverlap, Occupies, Overlaps, Uses, on_earlier}
 use Rattle.cap_spec.proofs.ProofNames.{on_root, twice, Before, Reaches}
 use Rattle.cap_vet.specs.VetNames.{Step, Conflicts, IsMarked, MarksAll, Ahead, IsTrail}
-use Rattle.cap_vet.proofs.Tours.{Falls-before, in_order, length-in_order, tour_of, up_to_head}
-use Rattle.cap_vet.proofs.Trails.{falls-step}
+use Rattle.cap_walk.proofs.Tours.{Falls-before, in_order, length-in_order, tour_of, up_to_head}
+use Rattle.cap_walk.proofs.Trails.{falls-step}
 
 -- a path that overlaps is reached
 reached_overlap : (m : List (List ℕ)) (p : List Step) → Overlaps m p → (level s w : ℕ) × Reaches m p level s w

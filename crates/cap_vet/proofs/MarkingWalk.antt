@@ -5,14 +5,13 @@ use Rattle.cap_spec.proofs.Lemmas.{disjoint_of_none, none_of_disjoint, lead_word
 use Rattle.cap_spec.proofs.ProofNames.{List, Option, [], arith, false, inl, inr, length, refl, true, ℕ, ◌++◌, ◌∷◌}
 use Rattle.cap_spec.proofs.ProofNames.{◌≡◌, ∥∥₁_elim, props, IsDisjoint, IsFirstOverlap, Occupies, pads_of, Costs}
 use Rattle.cap_spec.proofs.ProofNames.{Some, extent, rules}
-use Rattle.cap_vet.specs.VetNames.{Step, Conflicts, IsMarked, MarksAll, Ahead, HasWalked, IsLookedAt, Report}
+use Rattle.cap_vet.specs.VetNames.{Step, Conflicts, IsMarked, IsTrail, MarksAll, Ahead, IsLookedAt}
 use Rattle.cap_vet.specs.OverlapSteps.{KnowsMarks, KnowsOverlap}
 use Rattle.cap_vet.specs.Overlapping.{EndsMarking, OverlapsFirst}
 use Rattle.cap_vet.specs.Taken.{HasMarked, HasCapacity}
 use Rattle.cap_vet.specs.declared.exclusiveness.marks.Marks.{Marks}
 use Rattle.cap_vet.specs.declared.exclusiveness.overlap_turn.Overlap.{Overlap}
 use Rattle.cap_vet.proofs.Marking.{all_disjoint, first_overlap, marks_on}
-use Rattle.cap_vet.proofs.Verdicts.{none_ahead}
 
 -- what costs something uses places
 used_at : (m : List (List ℕ)) (s w cost : ℕ) → Costs m s w cost → (used : List (ℕ × ℕ)) × Occupies m s w used
@@ -58,9 +57,9 @@ pub kept_overlaps : (m : List (List ℕ)) (seen : List (List Step)) (marks : Mar
 kept_overlaps m seen marks first o e k = search rules
 
 -- the end
-pub ends_marking : (m : List (List ℕ)) {words depth : ℕ} {report : Report} (seen : List (List Step)) (ahead : List Ahead) (first : Option Overlap)
-    → HasWalked m words depth [] report seen ahead → KnowsOverlap m seen first → EndsMarking m first
-ends_marking m seen ahead first w k = search (rules, all_disjoint, none_ahead)
+pub ends_marking : (m : List (List ℕ)) (seen : List (List Step)) (first : Option Overlap) → IsTrail m seen []
+    → KnowsOverlap m seen first → EndsMarking m first
+ends_marking m seen first t k = search (rules, all_disjoint)
 
 -- there is capacity whatever is marked
 pub capacity_kept : (m : List (List ℕ)) (starts marks after : List ℕ) → HasCapacity m starts marks → length after ≡ length marks → HasCapacity m starts after

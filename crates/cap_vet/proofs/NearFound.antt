@@ -7,9 +7,13 @@ use Rattle.cap_ptr.specs.Rows.{FindsRow, HasPointers}
 use Rattle.cap_ptr.specs.Shapes.{FindsTarget, IsShape}
 use Rattle.cap_ptr.proofs.NearObjects.{pointers-no_extra, pointers-plain}
 use Rattle.cap_vet.specs.NearFinding.{IsNearWithin}
-use Rattle.cap_vet.specs.VetNames.{Row, Shape, Target, IsFound, levels_of, IsNotLax, FindsNear, Found}
+use Rattle.cap_ptr.specs.declared.near.Row.{Row}
+use Rattle.cap_ptr.specs.declared.shapes.Shape.{Shape}
+use Rattle.cap_ptr.specs.declared.shapes.Target.{Target}
+use Rattle.cap_vet.specs.VetNames.{IsFound, IsNotLax, FindsNear, Found}
+use Rattle.cap_ptr.specs.Levels.{levels_of}
 use Rattle.cap_vet.proofs.Founds.{null_found}
-use Rattle.cap_vet.proofs.Looks.{followed_costs, followed_shallow}
+use Rattle.cap_walk.proofs.Looks.{followed_costs, followed_shallow}
 use Rattle.cap_ptr.specs.declared.shapes.Followed.TheVariants as followed
 
 -- a pointer without landing pads has no form that common readers reject

@@ -1,35 +1,12 @@
--- What following a pointer that was looked at uses: its pads, and the words of its object.
+-- The words that following a pointer uses: its pads, and the words of its object.
 use Rattle.cap_spec.specs.Denoting.{places}
 use Rattle.cap_spec.proofs.Disjoint.Places.{no_pads}
-use Rattle.cap_spec.proofs.ProofNames.{List, arith, append-nil, inl, inr, length, refl, subst, suc, sym, ℕ, ◌++◌, ◌+◌}
-use Rattle.cap_spec.proofs.ProofNames.{◌<◌, ◌≡◌, ◌≢◌, Lead, Leads, to_cap, to_null, to_object, pos, HasWord, Occupies}
+use Rattle.cap_spec.proofs.ProofNames.{List, arith, inl, inr, subst, suc, sym, ℕ, ◌++◌, ◌+◌}
+use Rattle.cap_spec.proofs.ProofNames.{◌≡◌, ◌≢◌, Lead, Leads, to_cap, to_null, to_object, pos, HasWord, Occupies}
 use Rattle.cap_spec.proofs.ProofNames.{far_segment, kind, pad, pads_of, two, rules}
-use Rattle.cap_vet.specs.Marks.{UsesAlone, UsesPlace}
-use Rattle.cap_vet.specs.Turning.{place_of}
-use Rattle.cap_vet.specs.VetNames.{IsLooked}
-use Rattle.cap_vet.specs.declared.nodes.place.Place.{Place}
-use Rattle.cap_vet.specs.declared.walk.looking.Looked.{Looked}
+use Rattle.cap_ptr.specs.UsedPlaces.{UsesAlone, UsesPlace}
+use Rattle.cap_ptr.specs.declared.place.Place.{Place}
 use Rattle.cap_vet.proofs.Pads.{pad_places}
-use Rattle.cap_vet.specs.declared.walk.looking.Looked.TheVariants as looked
-
--- null and a capability use their pads alone
-pub looked_place : {m : List (List ℕ)} (words depth consumed : ℕ) {s w : ℕ} (level : ℕ) (l : Looked) → s < length m
-    → IsLooked m words depth consumed s w level l → UsesPlace m s w (place_of l)
-looked_place words depth consumed level (looked.Null cost) there h = record {
-  used = λ q has. (q, has, inl (cost, h.0, append-nil (pads_of q)));
-  exists = omega (arith, there);
-  inside = omega arith;
-}
-looked_place words depth consumed level (looked.Cap cost) there h = record {
-  used = λ q has. (q, has, inr (inl (cost, h.0.0, h.0.1, append-nil (pads_of q))));
-  exists = omega (arith, there);
-  inside = omega arith;
-}
-looked_place words depth consumed level (looked.Object cost deep run place) there (k, t, b, q, tag, o) = rw o.own (record {
-  used = λ p has. (p, has, inr (inr (k, t, b, q, o.finds, refl)));
-  exists = o.finds.inside.exists;
-  inside = o.finds.inside.inside;
-})
 
 -- what uses places leads to some place
 pub used_leads : {m : List (List ℕ)} {s w : ℕ} {used : List (ℕ × ℕ)} → Occupies m s w used → (k : ℕ) × (r : Lead) × Leads m s w k r

@@ -1,15 +1,15 @@
 -- What an exclusive message is, and why a message isn't one (profile).
 use Rattle.std.specs.Prelude.{List, ℕ, ⊤, ◌<◌, ◌≡◌, ◌≤◌}
 use Rattle.cap_spec.specs.SpecNames.{IsRefused, IsFirstOverlap}
-use Rattle.cap_vet.specs.Demands.{IsDemandFault, IsMet}
-use Rattle.cap_vet.specs.Reports.{IsAccepted}
+use Rattle.cap_walk.specs.Demands.{IsDemandFault, IsMet}
+use Rattle.cap_walk.specs.Reports.{IsAccepted}
 use Rattle.cap_vet.specs.Taken.{marks_of}
-use Rattle.cap_vet.specs.declared.demands.Demands.{Demands}
+use Rattle.cap_walk.specs.declared.demands.Demands.{Demands}
 use Rattle.cap_vet.specs.declared.exclusiveness.exclusive.Exclusive.{Exclusive}
 use Rattle.cap_vet.specs.declared.exclusiveness.exclusive_buffer.ExclusiveFault.{ExclusiveFault}
 use Rattle.cap_vet.specs.declared.exclusiveness.exclusive_vetting.ExclusiveRefusal.{ExclusiveRefusal}
 use Rattle.cap_vet.specs.declared.nodes.vetted.Vetted.{Vetted}
-use Rattle.cap_vet.specs.declared.walk.vetting.Report.{Report}
+use Rattle.cap_walk.specs.declared.report.Report.{Report}
 use Rattle.cap_frame.specs.declared.segments.Segments as segments
 use Rattle.cap_vet.specs.declared.exclusiveness.exclusive_buffer.ExclusiveFault.TheVariants as fault
 use Rattle.cap_vet.specs.declared.exclusiveness.exclusive_vetting.ExclusiveRefusal.TheVariants as refusal

@@ -4,7 +4,7 @@ use Rattle.cap_spec.specs.SpecNames.{HasWord, Costs, word, IsDeepAt}
 use Rattle.cap_ptr.specs.Rows.{FindsRow}
 use Rattle.cap_ptr.specs.declared.near.Row.{Row}
 use Rattle.cap_vet.specs.Finding.{IsFound}
-use Rattle.cap_vet.specs.Looking.{IsNotLax}
+use Rattle.cap_walk.specs.Looking.{IsNotLax}
 use Rattle.cap_vet.specs.declared.nodes.found.Found.{Found}
 
 -- The pointer word at s:w leads to this at this cost, within the words that are left and the depth limit. Common

@@ -6,8 +6,8 @@ use Rattle.cap_spec.specs.declared.Lax.{Lax}
 use Rattle.cap_spec.specs.declared.Step.{Step}
 use Rattle.cap_spec.specs.declared.StrictRefusal.{StrictRefusal}
 use Rattle.cap_spec.specs.declared.StrictRefusal.TheVariants.{ManySegments, Pointer, Refused}
-use Rattle.cap_vet.specs.Demands.{words_under}
-use Rattle.cap_vet.specs.declared.demands.Demands.{Demands}
+use Rattle.cap_walk.specs.Demands.{words_under}
+use Rattle.cap_walk.specs.declared.demands.Demands.{Demands}
 
 -- the pointers on the path keep to the limits
 abbrev pub KeepsToLimits : List (List ℕ) → ℕ → ℕ → List Step → Type 0

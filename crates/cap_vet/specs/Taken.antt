@@ -1,20 +1,15 @@
 -- Which words of a message are marked in a flat map of bits (profile).
 use Rattle.std.specs.Int.{bit_at}
-use Rattle.std.specs.Prelude.{List, [], length, slice_index, suc, sum, zero, ℕ, ◌%◌, ◌*◌, ◌+◌, ◌/◌, ◌<◌, ◌^◌, ◌∷◌, ◌≡◌}
+use Rattle.std.specs.Prelude.{List, length, slice_index, sum, ℕ, ◌%◌, ◌*◌, ◌+◌, ◌/◌, ◌<◌, ◌^◌, ◌≡◌}
 use Rattle.std.specs.Prelude.{◌≤◌}
 use Rattle.cap_spec.specs.SpecNames.{sizes_of, segment_of}
+use Rattle.cap_frame.specs.SegmentStarts.{start_of}
 use Rattle.cap_spec.specs.declared.Step.{Step}
 use Rattle.cap_vet.specs.Marks.{IsMarked}
 
 -- bit i of all the words, 0 or 1
 abbrev pub bit_in : List ℕ → ℕ → ℕ
 bit_in words i = bit_at (slice_index words (i / 64)) (i % 64)
-
--- the words of the segments before segment s
-abbrev pub start_of : List (List ℕ) → ℕ → ℕ
-start_of m zero = 0
-start_of [] (suc s) = 0
-start_of (segment ∷ m) (suc s) = length segment + start_of m s
 
 -- how many numbers of 64 bits are taken for a bit for each of a message's words
 abbrev pub marks_of : List (List ℕ) → ℕ

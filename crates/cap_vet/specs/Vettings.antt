@@ -1,6 +1,6 @@
 -- What an accepted message is (profile).
 use Rattle.cap_vet.specs.declared.nodes.vetted.Vetted.{Vetted}
-use Rattle.cap_vet.specs.declared.walk.vetting.Report.{Report}
+use Rattle.cap_walk.specs.declared.report.Report.{Report}
 use Rattle.cap_frame.specs.declared.segments.Segments as segments
 
 -- its report

@@ -6,7 +6,7 @@ use Rattle.cap_spec.specs.declared.Kind.{Kind}
 use Rattle.cap_spec.specs.declared.Kind.TheVariants.{Cap, Null}
 use Rattle.cap_vet.specs.Spots.{spot_of}
 use Rattle.cap_vet.specs.declared.nodes.node.Node.{Node}
-use Rattle.cap_vet.specs.declared.nodes.place.Place.{Place}
+use Rattle.cap_ptr.specs.declared.place.Place.{Place}
 use Rattle.cap_vet.specs.declared.nodes.view.View.{View}
 use Rattle.cap_frame.specs.declared.segments.Segments as segments
 

@@ -6,7 +6,7 @@ use Rattle.cap_spec.proofs.ProofNames.{false, length, length-append, length-drop
 use Rattle.cap_spec.proofs.ProofNames.{subst, sym, take, take-append-drop, true, ℕ, ◌%◌, ◌*◌, ◌++◌, ◌+◌, ◌-◌}
 use Rattle.cap_spec.proofs.ProofNames.{◌/◌, ◌<◌, ◌^◌, ◌∙◌, ◌∷◌, ◌≡◌, ◌≤◌, ◌⊎◌, Consumes-nil, Consumes-trans, Consumes}
 use Rattle.cap_spec.proofs.ProofNames.{put_mid, plain_text, plain_words, word_bytes, IsWord, rules, common_steps}
-use Rattle.cap_words.specs.Ends.{Works}
+use Rattle.cap_words.specs.ByteIo.{Works}
 use Rattle.cap_words.specs.TakingMany.{EndsWithin, ReadsBytes, TakesAll}
 use Rattle.cap_words.proofs.Pieces.{on_some}
 use Rattle.cap_words.proofs.Turns.{filled, filled_within}

@@ -3,7 +3,7 @@ use Rattle.cap_spec.proofs.ProofNames.{Bool, List, Option, ap, drop, length, len
 use Rattle.cap_spec.proofs.ProofNames.{length-take-le, take, take-add, ℕ, ◌++◌, ◌+◌, ◌-◌, ◌<◌}
 use Rattle.cap_spec.proofs.ProofNames.{◌∙◌, ◌≡◌, ◌≤◌, Appends-trans, Consumes-trans, take-append-add, take-append-le}
 use Rattle.cap_spec.proofs.ProofNames.{take_rest, Appends, Consumes, put_mid, rules}
-use Rattle.cap_words.specs.Ends.{Works}
+use Rattle.cap_words.specs.ByteIo.{Works}
 
 -- this many bytes were moved: with none of them the end is as it was, with some it worked
 pub record Moved {E A : Type 0} (broken : E → Bool) (failures : E → A) (moved : ℕ) (old new : E) : Type 0 where

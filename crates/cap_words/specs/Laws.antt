@@ -8,8 +8,8 @@ use Rattle.cap_spec.specs.SpecNames.{plain_words, IsWord}
 use Rattle.cap_spec.proofs.Bytes.Plain.{plain_split}
 use Rattle.cap_words.specs.PlainSource.{bytes_left}
 use Rattle.cap_words.specs.Known.{are_bytes, known_bytes}
-use Rattle.cap_words.specs.declared.ends.Phase.{Phase}
-use Rattle.cap_words.specs.declared.ends.Phase.TheVariants.{Ended, Failed, Open}
+use Rattle.cap_words.specs.declared.byte_io.Phase.{Phase}
+use Rattle.cap_words.specs.declared.byte_io.Phase.TheVariants.{Ended, Failed, Open}
 
 -- both of two tests hold
 pub both_hold : (a b : Bool) → (a && b) ≡ true → (a ≡ true) × (b ≡ true)

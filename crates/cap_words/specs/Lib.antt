@@ -1,5 +1,5 @@
 pub mod Counting
-pub mod Ends
+pub mod ByteIo
 pub mod Inner
 pub mod Laws
 pub mod Phases

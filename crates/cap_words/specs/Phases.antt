@@ -1,11 +1,11 @@
 -- What a source says of itself by its phase, and by the faults of its input (profile).
 use Rattle.std.specs.Prelude.{Bool, false, true}
-use Rattle.cap_words.specs.declared.ends.InFault.{InFault}
-use Rattle.cap_words.specs.declared.ends.Phase.{Phase}
-use Rattle.cap_words.specs.declared.ends.Phase.TheVariants.{Ended, Failed, Open}
+use Rattle.cap_words.specs.declared.byte_io.InFault.{InFault}
+use Rattle.cap_words.specs.declared.byte_io.Phase.{Phase}
+use Rattle.cap_words.specs.declared.byte_io.Phase.TheVariants.{Ended, Failed, Open}
 use Rattle.cap_words.specs.declared.sources.SourceFault.{SourceFault}
 use Rattle.cap_words.specs.declared.sources.SourceFault.TheVariants.{Device, Spent}
-use Rattle.cap_words.specs.declared.ends.InFault.TheVariants as fault
+use Rattle.cap_words.specs.declared.byte_io.InFault.TheVariants as fault
 
 -- it has answered that there are no more words
 abbrev pub has_ended : Phase → Bool

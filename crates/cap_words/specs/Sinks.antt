@@ -1,8 +1,8 @@
 -- What is known of the text of a sink (profile).
 use Rattle.std.specs.Io.KnownBytes.{Keeps, append_known}
 use Rattle.std.specs.Prelude.{Bool, List, None, Option, Some, false, refl, ℕ, ⊤, ◌++◌, ◌≡◌}
-use Rattle.cap_words.specs.declared.ends.OutFault.{OutFault}
-use Rattle.cap_words.specs.declared.ends.OutFault.TheVariants.{Device, Memory, Spent}
+use Rattle.cap_words.specs.declared.byte_io.OutFault.{OutFault}
+use Rattle.cap_words.specs.declared.byte_io.OutFault.TheVariants.{Device, Memory, Spent}
 use Rattle.cap_words.specs.declared.sinks.SinkFault.{SinkFault}
 use Rattle.cap_words.specs.declared.sinks.SinkFault.TheVariants.{Device as of_device, Memory as of_memory}
 use Rattle.cap_words.specs.declared.sinks.SinkFault.TheVariants.{Spent as was_broken}

@@ -1,6 +1,6 @@
 -- What an output into memory says of itself (profile).
 use Rattle.std.specs.Prelude.{Bool, List, Option, Some, vec_capacity, vec_len, ℕ, ◌-◌, ◌==◌, ◌^◌}
-use Rattle.cap_words.specs.Ends.{Failures}
+use Rattle.cap_words.specs.ByteIo.{Failures}
 use Rattle.cap_words.specs.declared.vec_out.VecOut.{VecOut}
 
 -- the bytes written so far

@@ -3,9 +3,9 @@
 ghost use Rattle.cap_words.specs.Laws.{known_are_bytes};
 ghost use Rattle.cap_words.specs.Known.{known_bytes};
 ghost use Rattle.std.specs.Io.KnownBytes.{IsAtEnd, Keeps, ReadConsumes, prepend_known};
-ghost use Rattle.std.specs.Prelude.{◌<◌, ◌≡◌, ◌≤◌, [], IfOk, IsErrOf, OnOk, false, if◌then◌else◌, length, slice_range, take, true, vec_len};
+ghost use Rattle.std.specs.Prelude.{◌<◌, ◌≡◌, ◌≤◌, IfOk, IsErrOf, OnOk, false, if◌then◌else◌, length, slice_range, take, true, vec_len};
 
-use crate::ends::{ByteIn, InFault};
+use crate::byte_io::{ByteIn, InFault};
 use std::alloc::{AllocError, Global};
 use std::io::Read;
 

@@ -6,7 +6,7 @@ ghost use Rattle.cap_words.specs.Known.{known_bytes};
 ghost use Rattle.cap_words.specs.declared.from_read.FromRead.{FromRead};
 ghost use Rattle.std.specs.Prelude.{◌≡◌, [], false, if◌then◌else◌};
 
-use crate::ends::{ByteIn, InFault};
+use crate::byte_io::{ByteIn, InFault};
 use std::io::Read;
 
 /// Reads from a std reader. Each error of the reader, an interruption too, is one failure, and

@@ -4,7 +4,7 @@ ghost use Rattle.cap_words.specs.Inner.{writer_of};
 ghost use Rattle.cap_words.specs.declared.from_write.FromWrite.{FromWrite};
 ghost use Rattle.std.specs.Prelude.{◌≡◌, false, if◌then◌else◌};
 
-use crate::ends::{ByteOut, OutFault};
+use crate::byte_io::{ByteOut, OutFault};
 use std::io::Write;
 
 /// Writes to a std writer, and flushes it where `flush` asks for it. Each error of the writer, an

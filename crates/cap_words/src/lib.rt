@@ -3,7 +3,7 @@
 #![tactic(auto)]
 
 mod buffered_in;
-mod ends;
+mod byte_io;
 mod from_read;
 mod from_write;
 mod plain_sink;
@@ -16,7 +16,7 @@ mod vec_out;
 mod word;
 
 pub use buffered_in::BufferedIn;
-pub use ends::{ByteIn, ByteOut, InFault, OutFault, Phase};
+pub use byte_io::{ByteIn, ByteOut, InFault, OutFault, Phase};
 pub use from_read::FromRead;
 pub use from_write::FromWrite;
 pub use plain_sink::PlainSink;

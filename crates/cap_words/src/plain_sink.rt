@@ -7,7 +7,7 @@ ghost use Rattle.cap_words.specs.declared.plain_sink.PlainSink.{PlainSink};
 ghost use Rattle.std.specs.Io.KnownBytes.{append_known};
 ghost use Rattle.std.specs.Prelude.{◌≡◌, ◌||◌, List, false, ℕ};
 
-use crate::ends::ByteOut;
+use crate::byte_io::ByteOut;
 use crate::sinks::{SinkFault, WordSink};
 use crate::transfer::write_all;
 use crate::word::bytes_of;

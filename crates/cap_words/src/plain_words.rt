@@ -10,7 +10,7 @@ ghost use Rattle.std.specs.List.{AllByRecursion};
 ghost use Rattle.std.specs.Option.{option_map};
 ghost use Rattle.std.specs.Prelude.{◌*◌, ◌++◌, ◌/◌, ◌<◌, ◌≡◌, ◌≤◌, ◌||◌, [], IfSome, List, OnSome, false, if◌then◌else◌, length, take, true, unwrap_or, ℕ};
 
-use crate::ends::{ByteIn, Phase};
+use crate::byte_io::{ByteIn, Phase};
 use crate::sources::{SourceFault, WordSource};
 use crate::transfer::Counted;
 use crate::word::word_of;

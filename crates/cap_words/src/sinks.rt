@@ -1,13 +1,13 @@
 //! Sinks of words.
 
 ghost use Rattle.cap_spec.specs.Plain.{plain_words};
-ghost use Rattle.cap_words.specs.Ends.{Failures, MemoryFails, OutputFails, WasClosed};
+ghost use Rattle.cap_words.specs.ByteIo.{Failures, MemoryFails, OutputFails, WasClosed};
 ghost use Rattle.cap_words.specs.Sinks.{Begins, StaysOpen, StoppedPutting, WasFinished, WasPut, sink_fault_of};
 ghost use Rattle.cap_words.specs.declared.sinks.SinkFault.TheVariants.{Device, Memory, Spent};
 ghost use Rattle.std.specs.Io.KnownBytes.{Keeps};
 ghost use Rattle.std.specs.Prelude.{◌≡◌, [], ◌∷◌, Bool, IsErrOf, List, OnErr, OnOk, Option, false, true, ℕ};
 
-use crate::ends::OutFault;
+use crate::byte_io::OutFault;
 
 /// Why a sink didn't take a word, or wasn't finished.
 #[derive(Clone, Copy, Debug, PartialEq, Eq, Drop)]

@@ -4,7 +4,7 @@ ghost use Rattle.cap_words.specs.Laws.{each_byte};
 ghost use Rattle.cap_words.specs.Known.{are_bytes};
 ghost use Rattle.std.specs.Prelude.{◌≡◌, Some, false, true};
 
-use crate::ends::{ByteIn, InFault};
+use crate::byte_io::{ByteIn, InFault};
 
 /// Reads a byte slice. It never fails.
 #[derive(Clone, Copy, Debug, Drop)]

@@ -2,7 +2,7 @@
 
 ghost use Rattle.cap_spec.specs.Plain.{plain_text, plain_words};
 ghost use Rattle.cap_spec.specs.Words.{IsWord};
-ghost use Rattle.cap_words.specs.Ends.{InputFails, NoFault, WasClosed};
+ghost use Rattle.cap_words.specs.ByteIo.{InputFails, NoFault, WasClosed};
 ghost use Rattle.cap_words.specs.Phases.{source_fault_of};
 ghost use Rattle.cap_words.specs.TakingMany.{EndsWithin, ReadsBytes, TakesWords};
 ghost use Rattle.cap_words.specs.declared.sources.SourceFault.TheVariants.{Device, Spent, Truncated};
@@ -13,7 +13,7 @@ ghost use Rattle.std.specs.Prelude.{◌*◌, ◌+◌, ◌++◌, ◌-◌, ◌/◌
 ghost use Rattle.std.specs.Prelude.{IfSome, IsErrOf, List, OnErr, OnOk, OnSome, Option, drop, false, length, min, take, true, ℕ};
 ghost use Rattle.std.specs.Vec.{vec_capacity, vec_len};
 
-use crate::ends::InFault;
+use crate::byte_io::InFault;
 use crate::word::bytes_of;
 
 /// Why a source gave no word.

@@ -2,11 +2,11 @@
 //! output.
 
 ghost use Rattle.cap_words.specs.Counting.{Reads};
-ghost use Rattle.cap_words.specs.Ends.{InputFails, MemoryFails, NoFault, OutputFails};
+ghost use Rattle.cap_words.specs.ByteIo.{InputFails, MemoryFails, NoFault, OutputFails};
 ghost use Rattle.std.specs.Io.KnownBytes.{Appends, Consumes, IsAtEnd};
 ghost use Rattle.std.specs.Prelude.{◌<◌, ◌≡◌, ◌≤◌, [], IfNone, IfOk, IfSome, IsErrOf, List, OnErr, OnOk, length, take, true, ℕ};
 
-use crate::ends::{ByteIn, ByteOut, InFault, OutFault};
+use crate::byte_io::{ByteIn, ByteOut, InFault, OutFault};
 
 /// How many bytes of a buffer were filled, and the fault that came before it was full.
 #[derive(Clone, Copy, Debug, PartialEq, Eq, Drop)]

@@ -1,12 +1,12 @@
 //! An output into memory.
 
-ghost use Rattle.cap_words.specs.Ends.{MemoryFails, NoFault, OutputFails, WasClosed};
+ghost use Rattle.cap_words.specs.ByteIo.{MemoryFails, NoFault, OutputFails, WasClosed};
 ghost use Rattle.cap_words.specs.Vectors.{vec_failures, vec_spare, vec_broken, vec_written};
 ghost use Rattle.cap_words.specs.declared.vec_out.VecOut.{VecOut};
 ghost use Rattle.std.specs.Io.KnownBytes.{WriteAppends};
 ghost use Rattle.std.specs.Prelude.{◌-◌, ◌<◌, ◌==◌, ◌^◌, ◌≡◌, ◌≤◌, [], IfOk, IsErrOf, OnOk, Some, length, true};
 
-use crate::ends::{ByteOut, OutFault};
+use crate::byte_io::{ByteOut, OutFault};
 use std::alloc::Global;
 
 /// Appends to a vector: all bytes of a call, or nothing if the vector can't grow. A later call may

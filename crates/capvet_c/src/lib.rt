@@ -12,11 +12,11 @@ ghost use Rattle.cap_calls.specs.ExclusiveCalls.{ReportsExclusive};
 ghost use Rattle.cap_calls.specs.ExplainCalls.{ReportsExplanation};
 ghost use Rattle.cap_calls.specs.ExtentCalls.{AreSegmentWords, ReportsExtents};
 ghost use Rattle.cap_calls.specs.NodeCalls.{ReportsGet};
-ghost use Rattle.cap_calls.specs.OverlapCalls.{ReportsOverlap};
+ghost use Rattle.cap_calls.specs.OverlapCalls.{ReportsOverlapCall};
 ghost use Rattle.cap_calls.specs.RangeCalls.{ReportsRange};
 ghost use Rattle.cap_calls.specs.PackCalls.{ReportsPack, ReportsUnpack};
 ghost use Rattle.cap_calls.specs.PointerCalls.{ReportsPointer};
-ghost use Rattle.cap_calls.specs.SegmentsCalls.{ReportsSegments};
+ghost use Rattle.cap_calls.specs.SegmentsCalls.{ReportsSegmentsCall};
 ghost use Rattle.cap_calls.specs.PackedMessages.{ReportsPackMessage};
 ghost use Rattle.cap_calls.specs.UnpackingMessages.{Leaves, ReportsUnpackMessage, Unpacked, UnpacksTo};
 ghost use Rattle.cap_calls.specs.declared.answer.Answer.{Answer};
@@ -191,11 +191,11 @@ pub extern "C" fn capvet_vet_segments(
     limits: &CallLimits,
     report: &mut CallReport,
 ) -> u32
-    ensures reports { (a : Answer) × ReportsSegments limits.now (bytes_of segments.now) a report.new
+    ensures reports { (a : Answer) × ReportsSegmentsCall limits.now (bytes_of segments.now) a report.new
         × (result ≡ answer_number a) }
     // The bytes allow no other result.
     ensures only { (a : Answer) (r : CallReport) →
-        ReportsSegments limits.now (bytes_of segments.now) a r →
+        ReportsSegmentsCall limits.now (bytes_of segments.now) a r →
         (result ≡ answer_number a) × (report.new ≡ r) }
 {
     vet_segments(segments, limits, report).number()
@@ -490,12 +490,12 @@ pub extern "C" fn capvet_explain_overlap(
     required: &mut usize,
     report: &mut CallReport,
 ) -> u32
-    ensures reports { (a : Answer) × ReportsOverlap limits.now bytes.now
+    ensures reports { (a : Answer) × ReportsOverlapCall limits.now bytes.now
         (record { segment = segment; word = word; number = number }) text.old a required.new
         text.new report.new × (result ≡ answer_number a) }
     // The bytes, the pointer and the capacity allow no other result.
     ensures only { (a : Answer) (n : ℕ) (new : List ℕ) (r : CallReport) →
-        ReportsOverlap limits.now bytes.now
+        ReportsOverlapCall limits.now bytes.now
         (record { segment = segment; word = word; number = number }) text.old a n new r →
         (result ≡ answer_number a) × (required.new ≡ n) × (text.new ≡ new) × (report.new ≡ r) }
     // This capacity is always enough.

@@ -1,5 +1,5 @@
 //! The answers of the calls about canonical copies, which have to agree, for messages whose copies are known from
-//! outside. `tests/messages.py` has many more, by the built program, and `test_memory` has copies as bytes.
+//! outside. `tests/shared/messages.py` has many more, by the built program, and `test_memory` has copies as bytes.
 
 use super::held::{message, words};
 use crate::same::{same, same_of};

@@ -1,5 +1,5 @@
 //! The first difference of a message from its canonical copy, of messages that are known from outside.
-//! `tests/differences.py` compares the same reasons with copies, for many more.
+//! `tests/calls/differences.py` compares the same reasons with copies, for many more.
 
 use super::held::message;
 use crate::same::same_of;

@@ -1,6 +1,6 @@
 //! Tests of following, of vetting, of what `read` answers, of canonical copies and of differences from them, by public calls
 //! alone.
-//! The calls from C are tested as they are built, by `tests/calls.py`.
+//! The calls from C are tested as they are built, by `tests/calls/calls.py`.
 //!
 //! They are outside of the crates that they test, since the gate proves a crate with tests twice.
 #![tactic(auto)]

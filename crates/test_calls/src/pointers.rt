@@ -1,5 +1,5 @@
-//! Pointer words that are known from outside, and what they lead to. `tests/messages.py` has many more, by verdicts and
-//! nodes of the built program.
+//! Pointer words that are known from outside, and what they lead to. `tests/shared/messages.py` has many more, by
+//! verdicts and nodes of the built program.
 
 use super::held::message;
 use crate::same::{same, same_of};

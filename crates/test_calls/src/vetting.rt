@@ -1,5 +1,5 @@
-//! Verdicts of messages that are known from outside. `tests/messages.py` and `tests/strict.py` have many more, by the
-//! built program and from C.
+//! Verdicts of messages that are known from outside. `tests/shared/messages.py` and `tests/shared/strict.py` have many
+//! more, by the built program and from C.
 
 mod charges;
 mod earlier;

@@ -111,10 +111,10 @@ fn files_have_their_names(rt: HostRuntime) -> Result<(), Fail> {
         words.push(String::from_str(rt.alloc(), word)?)?;
     }
     let read: Result<Jobs, JobFault> = read_jobs(rt.alloc(), words);
-    let Ok(Jobs { job, more_files }) = read else {
+    let Ok(Jobs { job, named_files }) = read else {
         return Err(Fail::from("no job"));
     };
-    same(&rt, more_files.len(), 1);
+    same(&rt, named_files.len(), 2);
     let marks: FileMarks = file_marks(rt.alloc(), &job, "a")?;
     same(
         &rt,

@@ -1,5 +1,5 @@
-//! Engines over streams of two messages, to an output in memory. In `tests/refusals.py` each allocation of every
-//! command fails.
+//! Engines over streams of two messages, to an output in memory. In `tests/program/program_allocations.py` each
+//! allocation of every command fails.
 
 use crate::reading::{another_answer, refused};
 use crate::same::{same, same_of};

@@ -1,5 +1,6 @@
-//! Framed messages that are read in each way, and written, of bytes that are known from outside. `tests/flags.py` has
-//! messages that are found before other bytes, from C, and `tests/filtering.py` more messages that are written.
+//! Framed messages that are read in each way, and written, of bytes that are known from outside.
+//! `tests/calls/flags.py` has messages that are found before other bytes, from C, and `tests/shared/filtering.py` more
+//! messages that are written.
 
 use crate::same::same;
 use crate::steps::part;
@@ -171,7 +172,7 @@ static CASES: [Case<'static>; 13] = [
     ),
 ];
 
-// Each way to read a message gives the same, and after it the source goes on in the same way. `tests/program.py`
+// Each way to read a message gives the same, and after it the source goes on in the same way. `tests/program/program.py`
 // reads messages into a buffer that is used again, and outlines.
 fn expect_each_way(
     rt: &impl Abort,

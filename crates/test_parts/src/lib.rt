@@ -3,9 +3,9 @@
 #![tactic(auto)]
 
 #[cfg(test)]
-mod devices;
+mod byte_io;
 #[cfg(test)]
-mod ends;
+mod devices;
 #[cfg(test)]
 mod frames;
 #[cfg(test)]

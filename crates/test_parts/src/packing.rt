@@ -1,5 +1,5 @@
-//! The packed text of words that are put one by one, many at once, and as bytes. `tests/program.py` packs and unpacks
-//! words of every tag, and long runs.
+//! The packed text of words that are put one by one, many at once, and as bytes. `tests/program/program.py` packs and
+//! unpacks words of every tag, and long runs.
 
 use crate::same::same;
 use crate::steps::{Puts, put_by};

@@ -1,4 +1,4 @@
-//! Positions in packed texts, what is buffered of them, and the input that is left. `tests/program.py` unpacks
+//! Positions in packed texts, what is buffered of them, and the input that is left. `tests/program/program.py` unpacks
 //! worked samples and texts that are cut, however few bytes come at once.
 
 use crate::steps::{Reads, Takes, read_by, take_by};

@@ -7,6 +7,7 @@ mod command_line;
 mod files;
 mod jobs;
 mod marked;
+mod naming;
 mod running;
 mod sizes;
 

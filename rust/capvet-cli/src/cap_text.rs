@@ -9,7 +9,7 @@ mod breaks;
 mod difference;
 mod explained;
 mod fault;
-mod faults;
+mod fault_lines;
 mod get;
 mod guess;
 mod hash;
@@ -26,7 +26,7 @@ pub use difference::{
 };
 pub use explained::{write_explained_json, write_explained_overlap_json, write_filtered_json};
 pub use fault::{Cause, CopyFault, ExplainedFault, RunFault, SingleFault, StreamBreak};
-pub use faults::{write_copy_fault, write_fault, write_single_fault};
+pub use fault_lines::{write_copy_fault, write_fault, write_single_fault};
 pub use get::write_node;
 pub use guess::write_guessed_fault;
 pub use hash::{write_digest, write_hash, write_no_form};

@@ -88,7 +88,7 @@ impl Read for Input {
 
 // Opens the job's files, or takes standard input, and runs the job on them.
 fn open_and_run(rt: &HostRuntime, jobs: &Jobs) -> u8 {
-    if !jobs.more_files.is_empty() {
+    if !jobs.named_files.is_empty() {
         return run_each(rt, jobs);
     }
     let job = &jobs.job;
@@ -107,18 +107,11 @@ fn open_and_run(rt: &HostRuntime, jobs: &Jobs) -> u8 {
     }
 }
 
-// Runs the job on each of several files, one after the other, and returns the greatest status. It
+// Runs the job on each of its named files, one after the other, and returns the greatest status. It
 // ends where the output failed.
 fn run_each(rt: &HostRuntime, jobs: &Jobs) -> u8 {
     let mut greatest = 0;
-    if let Some(name) = &jobs.job.file {
-        let (status, goes_on) = run_named(rt, &jobs.job, name.as_str());
-        if !goes_on {
-            return status;
-        }
-        greatest = status;
-    }
-    for name in &jobs.more_files {
+    for name in &jobs.named_files {
         let (status, goes_on) = run_named(rt, &jobs.job, name.as_str());
         if !goes_on {
             return status;
@@ -128,7 +121,7 @@ fn run_each(rt: &HostRuntime, jobs: &Jobs) -> u8 {
     greatest
 }
 
-// Runs the job on one of several files, with its name in each line. Also says whether the output
+// Runs the job on a named file, with its name in each line. Also says whether the output
 // takes more.
 fn run_named(rt: &HostRuntime, job: &Job, name: &str) -> (u8, bool) {
     let file = match File::open(rt, name) {
@@ -189,7 +182,7 @@ fn run_over_named(
     }
 }
 
-// Writes a line about one of several files, and returns the status.
+// Writes a line about a named file, and returns the status.
 fn fail_named(rt: &HostRuntime, name: &str, text: &str) -> u8 {
     let _ = eprintln!(rt; "{name}: capvet: {text}");
     FAILED
@@ -270,7 +263,7 @@ fn explain(rt: &HostRuntime, task: &Task, error: &io::Error) {
     }
 }
 
-// The same for one of several files.
+// The same for a named file.
 fn explain_named(rt: &HostRuntime, job: &Job, name: &str, error: &io::Error) {
     if gives_reasons(&job.task) {
         let _ = eprintln!(rt; "{name}: capvet: {error}");

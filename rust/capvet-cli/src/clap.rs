@@ -4,7 +4,7 @@ use crate::rattle::String;
 use capvet_core::rattle::alloc::{AllocError, Global};
 use std::fmt;
 use std::marker::PhantomData;
-use std::ops::RangeInclusive;
+use std::ops::{RangeFrom, RangeInclusive};
 
 pub(crate) mod error {
     /// What an error is, as far as a caller asks.
@@ -91,6 +91,10 @@ impl<'a> Arg<'a> {
 
     pub fn value_name(self, name: &'a str) -> Self {
         self.with(|arg| arg.value_name(name.to_owned()))
+    }
+
+    pub fn num_args(self, range: RangeFrom<usize>) -> Self {
+        self.with(|arg| arg.num_args(range))
     }
 
     pub fn value_parser(self, parser: ::clap::builder::ValueParser) -> Self {
@@ -204,6 +208,11 @@ impl<'a> ArgMatches<'a> {
     pub fn get_strs(&self, id: &str) -> Option<Vec<&str>> {
         let texts = self.matches.try_get_many::<std::string::String>(id);
         Some(texts.ok().flatten()?.map(|text| text.as_str()).collect())
+    }
+
+    /// `false` for an id that the command hasn't, or of which there is no value.
+    pub fn contains_id(&self, id: &str) -> bool {
+        self.matches.try_contains_id(id).unwrap_or(false)
     }
 
     /// `false` for an id that the command hasn't.

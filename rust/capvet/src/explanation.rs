@@ -187,6 +187,7 @@ mod tests {
     fn the_longest_path_has_its_line() {
         let cycle = [0, 0, 0, 0, 1, 0, 0, 0, 0xfc, 0xff, 0xff, 0xff, 0, 0, 1, 0];
         let lines = lines(&cycle, Limits::DEFAULT.with_depth(256));
-        assert!(lines.starts_with(&format!("  path {}\n", "/p0".repeat(256))));
+        let eight = "/p0".repeat(8);
+        assert!(lines.starts_with(&format!("  path {eight}/.. 240 steps ..{eight}\n")));
     }
 }

@@ -1,4 +1,4 @@
-// (a test of it would need `capvet_capnp`, which needs this crate: tests/adapters.py builds it)
+// (a test of it would need `capvet_capnp`, which needs this crate: tests/bindings/adapters.py builds it)
 #![cfg_attr(not(doctest), doc = include_str!("../README.md"))]
 //!
 //! # What is accepted

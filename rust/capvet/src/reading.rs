@@ -512,7 +512,9 @@ mod tests {
             let path = errors[0].path().expect("it names a pointer");
             assert_eq!(path.to_string(), "/p0".repeat(64));
             let lines = errors[0].explain().to_string();
-            assert!(lines.starts_with(&format!("  path {path}\n")), "{lines}");
+            let eight = "/p0".repeat(8);
+            let shown = format!("  path {eight}/.. 48 steps ..{eight}\n");
+            assert!(lines.starts_with(&shown), "{lines}");
             let cut = (&errors[1].unvetted[..], errors[1].path());
             assert_eq!(
                 cut,

@@ -10,7 +10,6 @@ mod objects;
 mod pointers;
 mod reading;
 mod reason;
-mod search;
 mod structs;
 
 pub use difference::{first_difference, Difference};

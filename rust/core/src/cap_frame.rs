@@ -8,6 +8,7 @@ mod byte_reader;
 mod fault;
 mod framed;
 mod front;
+mod lengths;
 mod message;
 mod outline;
 mod outline_reader;
@@ -24,9 +25,10 @@ pub use byte_message::ByteMessage;
 pub use byte_message::{words_at, ByteView};
 #[cfg(feature = "std")]
 pub use byte_reader::{read_byte_message, read_into, read_noting};
-pub use fault::{FrameFault, FrontFault, SizeLimit};
+pub use fault::{FrameFault, FrontFault, SizeLimit, MOST_WORDS};
 pub use framed::Framed;
 pub use front::front_of;
+pub use lengths::{message_words, words_before};
 pub use message::OneSegment;
 #[cfg(feature = "std")]
 pub use message::WordMessage;

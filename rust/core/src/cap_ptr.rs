@@ -4,6 +4,7 @@
 mod following;
 mod forms;
 mod near;
+mod place;
 mod shapes;
 
 pub use crate::cap_spec::Reason;
@@ -12,5 +13,10 @@ pub use forms::{
     cap_index, code, data_size, far_segment, kind, list_size, middle, pad, pointer_size, two,
     Pointer,
 };
-pub use near::{near_row, near_target, structs_target, tag_at, words_of_elements, Row};
-pub use shapes::{element_bits, Followed, Shape, Target};
+pub use near::{
+    near_row, near_target, struct_list, structs_target, tag_at, words_of_elements, Row,
+};
+pub use place::Place;
+pub use shapes::{
+    element_bits, extent, is_structs, levels_of_elements, levels_taken, Followed, Shape, Target,
+};

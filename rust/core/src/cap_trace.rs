@@ -1,14 +1,12 @@
 // crates/cap_trace/src/lib.rt without its contracts, by tools/erase: that text is proved, this one is only tested.
-//! The path of a pointer word of a message, by the word's number in preorder, and the first pointer that
-//! uses a word of its object.
+//! The path of a pointer word of a message, by the word's number in preorder; the first pointer that uses
+//! a word that it uses; and where the path was at that word before.
 
 mod below;
 mod branch;
 mod earlier;
-mod lists;
 mod naming;
-mod near;
-mod row;
+mod returning;
 mod seeking;
 mod slot;
 mod tracing;
@@ -16,5 +14,6 @@ mod used_words;
 
 pub use earlier::{earlier_pointer, EarlierPointer};
 pub use naming::NamedPath;
+pub use returning::return_level;
 pub use slot::StepSlot;
 pub use tracing::path_of_pointer;

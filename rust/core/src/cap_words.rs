@@ -4,7 +4,7 @@
 
 #[cfg(feature = "std")]
 mod buffered_in;
-mod ends;
+mod byte_io;
 #[cfg(feature = "std")]
 mod from_read;
 #[cfg(feature = "std")]
@@ -21,7 +21,7 @@ mod word;
 
 #[cfg(feature = "std")]
 pub use buffered_in::BufferedIn;
-pub use ends::{ByteIn, ByteOut, InFault, OutFault, Phase};
+pub use byte_io::{ByteIn, ByteOut, InFault, OutFault, Phase};
 #[cfg(feature = "std")]
 pub use from_read::FromRead;
 #[cfg(feature = "std")]

@@ -37,6 +37,7 @@ extern crate std;
 #[cfg(target_pointer_width = "16")]
 compile_error!("a message may have more bytes than a pointer of 16 bits can address");
 
+pub mod cap_buffer;
 pub mod cap_calls;
 pub mod cap_canon;
 pub mod cap_difference;
@@ -48,5 +49,6 @@ pub mod cap_ptr;
 pub mod cap_spec;
 pub mod cap_trace;
 pub mod cap_vet;
+pub mod cap_walk;
 pub mod cap_words;
 pub mod rattle;

@@ -1,4 +1,5 @@
-//! The items of Rattle's std that have another form than Rust's: what allocates takes the allocator and has a result.
+//! The items of Rattle's std that have another form than Rust's: what allocates takes the allocator and has a result. And digits by
+//! the crates `hex` and `itoa`, in few instructions.
 
 /// What a program allocates by.
 pub mod alloc {
@@ -9,6 +10,82 @@ pub mod alloc {
     /// There was no memory.
     #[derive(Clone, Copy, Debug, PartialEq, Eq)]
     pub struct AllocError;
+}
+
+pub mod hex {
+    use ::hex::FromHexError;
+
+    /// Writes the two hexadecimal digits of each byte, as the crate does.
+    #[inline(always)]
+    pub fn encode_to_slice<T: AsRef<[u8]>>(
+        input: T,
+        output: &mut [u8],
+    ) -> Result<(), FromHexError> {
+        let bytes = input.as_ref();
+        if let Ok(word) = <&[u8; 8]>::try_from(bytes) {
+            if let Ok(digits) = <&mut [u8; 16]>::try_from(&mut *output) {
+                write_word(word, digits);
+                return Ok(());
+            }
+        }
+        ::hex::encode_to_slice(bytes, output)
+    }
+
+    // A call of its own reads each byte from memory, which takes less than to shift it out of a word.
+    #[inline(never)]
+    fn write_word(word: &[u8; 8], digits: &mut [u8; 16]) {
+        if ::hex::encode_to_slice(word, digits).is_err() {
+            unreachable!()
+        }
+    }
+}
+
+pub mod itoa {
+    /// Writes the digits of a number so that they end at `end`, and returns where they start.
+    // Most numbers of a tree have one digit, of which the compiler makes a single store.
+    #[inline(always)]
+    pub fn write_digits(number: u64, out: &mut [u8], end: usize) -> usize {
+        if number < 10 {
+            write_any(number as u8, out, end)
+        } else {
+            write_more(number, out, end)
+        }
+    }
+
+    // (the digits of a narrow type take fewer instructions, and the compiler sees when there are five or six)
+    #[inline(never)]
+    fn write_more(number: u64, out: &mut [u8], end: usize) -> usize {
+        match number {
+            0..=9_999 => write_any(number as u16, out, end),
+            10_000..=99_999 => write_any(number as u32, out, end),
+            100_000..=999_999 => write_any(number as u32, out, end),
+            1_000_000..=0xffff_ffff => write_any(number as u32, out, end),
+            _ => write_any(number, out, end),
+        }
+    }
+
+    #[inline(always)]
+    fn write_any<I: ::itoa::Integer>(number: I, out: &mut [u8], end: usize) -> usize {
+        let mut digits = ::itoa::Buffer::new();
+        let text = digits.format(number).as_bytes();
+        let start = end - text.len();
+        let place = &mut out[start..end];
+        // (a slice of any length is copied by a call)
+        match text.len() {
+            2..=4 => copy_ends::<2>(text, place),
+            5..=8 => copy_ends::<4>(text, place),
+            _ => place.copy_from_slice(text),
+        }
+        start
+    }
+
+    // Copies the first and the last `N` bytes, which may overlap.
+    #[inline(always)]
+    fn copy_ends<const N: usize>(text: &[u8], place: &mut [u8]) {
+        let last = text.len() - N;
+        place[..N].copy_from_slice(&text[..N]);
+        place[last..].copy_from_slice(&text[last..]);
+    }
 }
 
 #[cfg(feature = "std")]

@@ -1,9 +1,9 @@
 //! The call for the earlier pointer of an overlap.
 
-ghost use Rattle.cap_calls.specs.EarlierCalls.{FindsEarlier, ReportsEarlierCall};
+ghost use Rattle.cap_calls.specs.EarlierCalls.{FindsEarlierCall, ReportsEarlierCall};
 ghost use Rattle.cap_calls.specs.declared.answer.Answer.{Answer};
 ghost use Rattle.cap_calls.specs.declared.report.CallReport.{CallReport};
-ghost use Rattle.cap_vet.specs.Limits.{depth_of, words_of};
+ghost use Rattle.cap_walk.specs.Limits.{depth_of, words_of};
 ghost use Rattle.std.specs.Prelude.{◌≡◌};
 
 use crate::answer::Answer;
@@ -54,7 +54,7 @@ struct Sharing {
 impl Call for Sharing {
     type Item = u8;
 
-    ghost finds = { λ call _ m words depth _ f _. FindsEarlier call.number m words depth f };
+    ghost finds = { λ call _ m words depth _ f _. FindsEarlierCall call.number m words depth f };
 
     #[inline(never)]
     fn on<'b>(
@@ -85,7 +85,7 @@ impl Call for Sharing {
 // What is found of a message, for the pointer of this number.
 #[inline(always)]
 fn earlier_found<M: Segments>(message: &M, limits: Limits, number: u64) -> Found
-    ensures { FindsEarlier number (M.segments message.now) (words_of limits) (depth_of limits) result }
+    ensures { FindsEarlierCall number (M.segments message.now) (words_of limits) (depth_of limits) result }
 {
     // A message of few words may have a pointer of any number.
     if number > limits.words() + 1 {

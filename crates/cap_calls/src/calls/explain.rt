@@ -2,14 +2,15 @@
 
 ghost use Rattle.cap_calls.specs.CallFindings.{refused_found};
 ghost use Rattle.cap_calls.specs.Calls.{ReportsVet};
-ghost use Rattle.cap_calls.specs.ExplainCalls.{FindsFewLines, PutsText, ReportsExplanation, fault_lines, frame_line};
+ghost use Rattle.cap_calls.specs.ExplainCalls.{FindsFewLines, PutsText, ReportsExplanation, frame_line};
 ghost use Rattle.cap_calls.specs.declared.answer.Answer.{Answer};
 ghost use Rattle.cap_calls.specs.declared.report.CallReport.{CallReport};
-ghost use Rattle.cap_explain.specs.Charges.{ChargeOf};
+ghost use Rattle.cap_explain.specs.Cycles.{IsFaultCycle};
 ghost use Rattle.cap_explain.specs.Explaining.{explanation};
-ghost use Rattle.cap_vet.specs.Demands.{IsDemandFault};
-ghost use Rattle.cap_vet.specs.Limits.{depth_of, words_of};
-ghost use Rattle.std.specs.Prelude.{◌≡◌, ◌≢◌, ◌≤◌, ◌⊎◌, [], List, None, length, ℕ};
+ghost use Rattle.cap_explain.specs.FaultLines.{fault_lines};
+ghost use Rattle.cap_walk.specs.Demands.{IsDemandFault};
+ghost use Rattle.cap_walk.specs.Limits.{depth_of, words_of};
+ghost use Rattle.std.specs.Prelude.{◌≡◌, ◌≢◌, ◌≤◌, ◌⊎◌, [], List, None, Option, length, ℕ};
 
 use crate::answer::Answer;
 use crate::found::Found;
@@ -18,7 +19,7 @@ use crate::limits::CallLimits;
 use crate::one_slice::OneSlice;
 use crate::over::Call;
 use crate::report::CallReport;
-use cap_explain::{Explanation, Numbers, explain as explain_refusal, refusal_charge};
+use cap_explain::{Explanation, Numbers, cycle_level, explain as explain_refusal, numbers_of};
 use cap_frame::{ByteView, Segments};
 use cap_spec::StrictRefusal;
 use cap_trace::NamedPath;
@@ -148,43 +149,22 @@ fn explained<'b>(
 ) -> Found
     ensures lines { let m = ⟦<ByteView<'b> as Segments>⟧.segments view.now in
         (h : IsDemandFault demands m (words_of limits) (depth_of limits) refusal) →
-        PutsText (fault_lines has_table demands m (words_of limits) (depth_of limits) refusal h)
-        out.old result.count out.new }
+        (cycle : Option ℕ)
+        × IsFaultCycle demands m (words_of limits) (depth_of limits) refusal h cycle
+        × PutsText (fault_lines has_table demands m (words_of limits) (depth_of limits) refusal h
+        cycle None) out.old result.count out.new }
     ensures few { result.count ≤ 6144 }
     ensures refused { result ≡ record (refused_found refusal) { count = result.count } }
 {
     let mut path = NamedPath::new();
     path.find_refused(view, limits, &refusal);
     let within = limits_under(view, limits, demands);
-    let numbers = numbers_of(view, &refusal, within, has_table);
+    let cycle = cycle_level(view, &refusal, limits);
+    let numbers = numbers_of(view, &refusal, cycle, within, has_table, None);
     let count = put_lines(view, &refusal, numbers, &path, out);
     Found {
         count,
         ..Found::refused(refusal)
-    }
-}
-
-// The numbers of a message that is refused within limits, and isn't one of a stream.
-#[inline(never)]
-fn numbers_of<'b>(
-    view: &ByteView<'b>,
-    refusal: &StrictRefusal,
-    limits: Limits,
-    has_table: bool,
-) -> Numbers
-    ensures words { result.words ≡ words_of limits }
-    ensures depth { result.depth ≡ depth_of limits }
-    ensures charge { let m = ⟦<ByteView<'b> as Segments>⟧.segments view.now in
-        ChargeOf m (words_of limits) (depth_of limits) refusal.now result.charge }
-    ensures table { result.has_table ≡ has_table }
-    ensures start { result.start ≡ None }
-{
-    Numbers {
-        words: limits.words(),
-        depth: limits.depth(),
-        charge: refusal_charge(view, refusal, limits),
-        has_table,
-        start: None,
     }
 }
 

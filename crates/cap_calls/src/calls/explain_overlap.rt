@@ -1,15 +1,16 @@
 //! The call that explains an overlap.
 
-ghost use Rattle.cap_calls.specs.OverlapCalls.{FindsFewOverlapLines, ReportsOverlap, both_lines, earlier_lines};
+ghost use Rattle.cap_calls.specs.OverlapCalls.{FindsFewOverlapLines, ReportsOverlapCall, both_lines};
 ghost use Rattle.cap_calls.specs.PackCalls.{ReportsText};
 ghost use Rattle.cap_calls.specs.PointerCalls.{steps_found};
 ghost use Rattle.cap_calls.specs.declared.answer.Answer.{Answer};
 ghost use Rattle.cap_calls.specs.declared.report.CallReport.{CallReport};
 ghost use Rattle.cap_explain.specs.Explaining.{overlap_lines};
+ghost use Rattle.cap_explain.specs.FaultLines.{earlier_lines};
 ghost use Rattle.cap_trace.specs.EarlierPointers.{IsEarlierOf};
 ghost use Rattle.cap_trace.specs.PointerNumbers.{IsTraceable};
 ghost use Rattle.cap_trace.specs.declared.earlier.EarlierPointer.{EarlierPointer};
-ghost use Rattle.cap_vet.specs.Limits.{depth_of, words_of};
+ghost use Rattle.cap_walk.specs.Limits.{depth_of, words_of};
 ghost use Rattle.std.specs.Prelude.{◌++◌, ◌≡◌, ◌≤◌, List, None, Option, Some, ℕ};
 
 use crate::answer::Answer;
@@ -61,11 +62,11 @@ pub fn explain_overlap(
     required: &mut usize,
     report: &mut CallReport,
 ) -> Answer
-    ensures reports { ReportsOverlap limits.now bytes.now pointer text.old result required.new text.new
+    ensures reports { ReportsOverlapCall limits.now bytes.now pointer text.old result required.new text.new
         report.new }
     // The bytes, the pointer and the capacity allow no other result.
     ensures only { (a : Answer) (n : ℕ) (new : List ℕ) (r : CallReport) →
-        ReportsOverlap limits.now bytes.now pointer text.old a n new r →
+        ReportsOverlapCall limits.now bytes.now pointer text.old a n new r →
         (result ≡ a) × (required.new ≡ n) × (text.new ≡ new) × (report.new ≡ r) }
     // This capacity is always enough.
     ensures few { required.new ≤ 12288 }

@@ -2,7 +2,7 @@
 
 ghost use Rattle.cap_calls.specs.Calls.{ReportsFrame, FindsFrame};
 ghost use Rattle.cap_calls.specs.CallBounds.{frame_bound};
-ghost use Rattle.cap_calls.specs.CallFindings.{Reports};
+ghost use Rattle.cap_calls.specs.CallFindings.{ReportsCall};
 ghost use Rattle.cap_calls.specs.declared.answer.Answer.{Answer};
 ghost use Rattle.cap_calls.specs.declared.report.CallReport.{CallReport};
 ghost use Rattle.std.specs.Prelude.{◌≡◌, ◌≤◌, ⊤};
@@ -34,7 +34,7 @@ pub fn frame(bytes: &[u8], limits: &CallLimits, report: &mut CallReport) -> Answ
 
 // What is found of the frame.
 fn extent(bytes: &[u8], limits: &CallLimits) -> Found
-    ensures { Reports ⊤ FindsFrame limits.now bytes.now result }
+    ensures { ReportsCall ⊤ FindsFrame limits.now bytes.now result }
 {
     match front(bytes, limits) {
         Ok((framed, _)) => Found {

@@ -1,11 +1,11 @@
 //! The call for the node at a path.
 
 ghost use Rattle.cap_calls.specs.CallFrames.{AreLimits};
-ghost use Rattle.cap_calls.specs.NodeCalls.{GetsFirst, ReportsGet, ReportsPath, bad_path_found, path_found};
+ghost use Rattle.cap_calls.specs.NodeCalls.{GetsFirst, ReportsGet, ReportsPathCall, bad_path_found, path_found};
 ghost use Rattle.cap_calls.specs.declared.answer.Answer.{Answer};
 ghost use Rattle.cap_calls.specs.declared.node.CallNode.{CallNode};
 ghost use Rattle.cap_calls.specs.declared.report.CallReport.{CallReport};
-ghost use Rattle.cap_path.specs.PathSteps.{AreLeft};
+ghost use Rattle.cap_path.specs.PathSteps.{AreStepsLeft};
 ghost use Rattle.cap_spec.specs.declared.Step.{Step};
 ghost use Rattle.std.specs.Prelude.{◌≡◌, Decides, List, slice_set};
 
@@ -56,7 +56,7 @@ pub fn get(
 
 // What the call finds.
 fn find(bytes: &[u8], limits: &CallLimits, path: &[u8], node: &mut CallNode) -> Found
-    ensures { ReportsPath limits.now bytes.now path.now node.new result }
+    ensures { ReportsPathCall limits.now bytes.now path.now node.new result }
 {
     *node = CallNode::none();
     match read_path(path) {
@@ -112,7 +112,7 @@ impl<'t> Call for Getting<'t> {
     type Item = CallNode;
 
     ghost finds = { λ call demands m words depth old f new. (path : List Step) →
-        AreLeft call.steps path → GetsFirst path old new demands m words depth f };
+        AreStepsLeft call.steps path → GetsFirst path old new demands m words depth f };
 
     #[inline(never)]
     fn on<'b>(

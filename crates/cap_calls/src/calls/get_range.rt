@@ -1,6 +1,6 @@
 //! The call for the nodes at the paths of a range.
 
-ghost use Rattle.cap_calls.specs.RangeCalls.{AreSteps, GetsRange, IsBadStep, ReportsRange, ReportsSteps, path_after, step_after};
+ghost use Rattle.cap_calls.specs.RangeCalls.{AreStepKinds, GetsRange, IsBadStep, ReportsRange, ReportsSteps, path_after, step_after};
 ghost use Rattle.cap_calls.specs.declared.answer.Answer.{Answer};
 ghost use Rattle.cap_calls.specs.declared.node.CallNode.{CallNode};
 ghost use Rattle.cap_calls.specs.declared.report.CallReport.{CallReport};
@@ -90,7 +90,7 @@ fn find(
 // Where the steps are no path of a range.
 fn bad_step(steps: &[CallStep], varying: usize) -> Option<usize>
     ensures some { IfSome result (IsBadStep steps.now varying) }
-    ensures none { IfNone result (AreSteps steps.now varying) }
+    ensures none { IfNone result (AreStepKinds steps.now varying) }
 {
     'steps: for at in 0..steps.len() {
         if steps[at].kind > 1 {
@@ -198,7 +198,7 @@ enum Shortcut<'m, M: Segments> {
 
 impl<'m, M: Segments> Shortcut<'m, M> {
     ghost use Rattle.cap_calls.specs.RangeShortcut.{HasCount, IsShortcut, IsShortcutNode, WritesFirst};
-    ghost use Rattle.cap_vet.specs.PathWays.{start_message};
+    ghost use Rattle.cap_vet.specs.GivenPaths.{start_message};
     ghost use Rattle.std.specs.Prelude.{◌^◌};
 
     // How to find the nodes after this start, at the step that varies and the others.

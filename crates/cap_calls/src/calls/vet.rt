@@ -4,7 +4,7 @@ ghost use Rattle.cap_calls.specs.CallFindings.{Judges};
 ghost use Rattle.cap_calls.specs.Calls.{IsGood, ReportsVet};
 ghost use Rattle.cap_calls.specs.declared.answer.Answer.{Answer};
 ghost use Rattle.cap_calls.specs.declared.report.CallReport.{CallReport};
-ghost use Rattle.cap_vet.specs.Limits.{depth_of, words_of};
+ghost use Rattle.cap_walk.specs.Limits.{depth_of, words_of};
 ghost use Rattle.std.specs.Prelude.{◌≡◌, ⊤};
 
 use crate::answer::Answer;

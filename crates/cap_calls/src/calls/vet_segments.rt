@@ -1,6 +1,6 @@
 //! The call that vets a message whose segments are separate.
 
-ghost use Rattle.cap_calls.specs.SegmentsCalls.{FindsSegments, ReportsSegments, no_segments_found};
+ghost use Rattle.cap_calls.specs.SegmentsCalls.{FindsSegments, ReportsSegmentsCall, no_segments_found};
 ghost use Rattle.cap_calls.specs.declared.answer.Answer.{Answer};
 ghost use Rattle.cap_calls.specs.declared.report.CallReport.{CallReport};
 ghost use Rattle.cap_calls.specs.Slices.{bytes_of};
@@ -29,10 +29,10 @@ use cap_frame::Segments;
 ///
 /// The report is written whole, and its length is the bytes of all segments.
 pub fn vet_segments(segments: &[&[u8]], limits: &CallLimits, report: &mut CallReport) -> Answer
-    ensures reports { ReportsSegments limits.now (bytes_of segments.now) result report.new }
+    ensures reports { ReportsSegmentsCall limits.now (bytes_of segments.now) result report.new }
     // The bytes allow no other result.
     ensures only { (a : Answer) (r : CallReport) →
-        ReportsSegments limits.now (bytes_of segments.now) a r → (result ≡ a) × (report.new ≡ r) }
+        ReportsSegmentsCall limits.now (bytes_of segments.now) a r → (result ≡ a) × (report.new ≡ r) }
 {
     let found = found_of(segments, limits);
     *report = found.report;

@@ -8,10 +8,10 @@ ghost use Rattle.cap_run.specs.Streams.{EndsStream};
 ghost use Rattle.cap_run.specs.Transcoding.{PutsWords};
 ghost use Rattle.cap_spec.specs.Frames.{frame_text};
 ghost use Rattle.cap_spec.specs.Plain.{plain_words};
-ghost use Rattle.cap_vet.specs.Limits.{depth_of, words_of};
+ghost use Rattle.cap_walk.specs.Limits.{depth_of, words_of};
 ghost use Rattle.std.specs.Prelude.{◌*◌, ◌<◌, ◌≡◌, ◌^◌, [], ◌∷◌, IfErr, List, OnOk, false, length, true, ℕ};
 
-use crate::engines::stream::end_stream;
+use crate::engines::reading::{end_stream, no_break};
 use crate::fault::output_fault;
 use crate::settings::{Outcome, Settings};
 use crate::waiting::{AHEAD, FlushNever, Flushing, flush_sink};
@@ -175,7 +175,8 @@ fn put_copies<S: WordSource, K: WordSink, F: Flushing<S>>(
             Err(cause) => return (number, Err(cause)),
         }
     }
-    (settings.messages, end_stream(source, settings.size))
+    let end = end_stream(source, settings.size, &mut no_break(false));
+    (settings.messages, end)
 }
 
 /// Whether the output didn't fail, so that the sink has still to be finished.

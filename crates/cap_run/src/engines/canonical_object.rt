@@ -1,10 +1,10 @@
 //! The JSON object of an accepted message that says whether it is canonical, and why not.
 
+ghost use Rattle.cap_difference.specs.declared.difference.Difference.{Difference};
 ghost use Rattle.cap_run.specs.Differing.{IsDifference, counted_by, difference_members};
 ghost use Rattle.cap_run.specs.Explained.{RefusedByFilter, filter_demands};
 ghost use Rattle.cap_run.specs.ExplainedJson.{FaultReason, IsMember};
 ghost use Rattle.cap_run.specs.Running.{counted_after};
-ghost use Rattle.cap_difference.specs.declared.difference.Difference.{Difference};
 ghost use Rattle.cap_spec.specs.Accepting.{IsWithin};
 ghost use Rattle.cap_spec.specs.GreatestLimits.{most_depth};
 ghost use Rattle.cap_spec.specs.Texts.{strict_verdict};
@@ -12,17 +12,16 @@ ghost use Rattle.cap_text.specs.DifferenceLines.{canonical_start};
 ghost use Rattle.cap_text.specs.JsonLines.{accepted_json, filter_member};
 ghost use Rattle.cap_text.specs.Writing.{Writes};
 ghost use Rattle.cap_trace.specs.NamedPaths.{fault_path};
-ghost use Rattle.cap_vet.specs.Demands.{IsDemandFault};
-ghost use Rattle.cap_vet.specs.Limits.{depth_of, words_of};
 ghost use Rattle.cap_vet.specs.Vettings.{message_of, report_of};
+ghost use Rattle.cap_walk.specs.Demands.{IsDemandFault};
+ghost use Rattle.cap_walk.specs.Limits.{depth_of, words_of};
 ghost use Rattle.std.specs.Prelude.{◌++◌, ◌≡◌, List, Option, Result, codes, ℕ};
 
 use crate::engines::differing::{counted_by, find_difference};
 use crate::engines::explain::filter_refusal;
-use crate::engines::explained::reason_lines;
-use crate::engines::sentence::last_reason;
+use crate::engines::sentence::{last_reason, reason_lines};
 use crate::engines::stream::Counted;
-use crate::engines::whole::after_text;
+use crate::engines::vetting::after_text;
 use cap_difference::{Difference, first_difference};
 use cap_explain::difference_sentence;
 use cap_frame::Segments;

@@ -1,15 +1,17 @@
 //! The engine that writes for each message whether it is canonical.
 
+ghost use Rattle.cap_frame.specs.Limit.{limit_of};
 ghost use Rattle.cap_run.specs.Checking.{ReportsChecked};
-ghost use Rattle.cap_run.specs.Demanding.{OrFaultIn, ReportsCheckUnder, no_demands};
+ghost use Rattle.cap_run.specs.Demanding.{OrFaultIn, ReportsCheckUnder};
 ghost use Rattle.cap_run.specs.Engines.{ReportsStream};
 ghost use Rattle.cap_run.specs.Reporting.{AllocatesNone};
-ghost use Rattle.cap_frame.specs.Limit.{limit_of};
-ghost use Rattle.cap_vet.specs.Limits.{depth_of, words_of};
+ghost use Rattle.cap_walk.specs.Demands.{no_demands};
+ghost use Rattle.cap_walk.specs.Limits.{depth_of, words_of};
 ghost use Rattle.std.specs.Prelude.{◌≡◌, if◌then◌else◌};
 
 use crate::engines::stream::Counted;
-use crate::engines::whole::{Judge, after_text, judge_all};
+use crate::engines::vetting::after_text;
+use crate::engines::whole::{MessagePrinter, print_messages};
 use crate::settings::{Outcome, Settings};
 use crate::waiting::{FlushNever, Flushing};
 use cap_canon::check_with;
@@ -27,15 +29,16 @@ struct Checking {
     demands: Demands,
 }
 
-impl Judge for Checking {
-    ghost reports = { λ c. OrFaultIn c.demands ReportsChecked c.limits };
+impl MessagePrinter for Checking {
+    ghost reports = { λ c _. OrFaultIn c.demands ReportsChecked c.limits };
 
     ghost allocates = { λ _. AllocatesNone };
 
-    fn judge<M: Segments, O: ByteOut>(
+    fn print_message<M: Segments, O: ByteOut>(
         &self,
         page: &mut Page,
         out: &mut O,
+        _before: u64,
         number: u32,
         message: &M,
     ) -> Result<Counted, Cause> {
@@ -126,5 +129,5 @@ pub fn run_check_with<S: WordSource, O: ByteOut, F: Flushing<S>>(
         limits: settings.limits,
         demands,
     };
-    judge_all(alloc, source, out, settings, checking, flushing)
+    print_messages(alloc, source, out, settings, checking, flushing)
 }

@@ -1,13 +1,13 @@
 //! The text of an accepted message on whether it is canonical, and why not.
 
-ghost use Rattle.cap_run.specs.Differing.{IsDifference, counted_by, difference_lines, difference_path, explained_lines, number_by};
 ghost use Rattle.cap_difference.specs.Differences.{FirstDifference};
+ghost use Rattle.cap_run.specs.Differing.{IsDifference, counted_by, difference_lines, difference_path, explained_lines, number_by};
 ghost use Rattle.cap_spec.specs.Accepting.{IsWithin};
 ghost use Rattle.cap_spec.specs.GreatestLimits.{most_depth};
 ghost use Rattle.cap_text.specs.Writing.{Writes, Wrote};
+ghost use Rattle.cap_walk.specs.Limits.{depth_of};
 ghost use Rattle.std.specs.Prelude.{◌++◌, ◌≡◌, List, ℕ};
 
-use crate::engines::explain::greatest_limits;
 use crate::engines::passing::write_more;
 use crate::engines::stream::Counted;
 use cap_difference::{Difference, DifferenceReason};
@@ -15,7 +15,15 @@ use cap_explain::{Explanation, MessageStart, explain_difference};
 use cap_frame::Segments;
 use cap_text::{Page, write_difference};
 use cap_trace::NamedPath;
+use cap_vet::Limits;
 use cap_words::{ByteOut, OutFault};
+
+/// The greatest limits.
+pub(crate) fn greatest_limits() -> Limits
+    ensures { depth_of result ≡ most_depth }
+{
+    Limits::greatest()
+}
 
 /// What is counted of an accepted message by its first difference.
 pub(crate) fn counted_by(difference: &Option<Difference>) -> Counted

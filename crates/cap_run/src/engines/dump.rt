@@ -1,19 +1,20 @@
 //! The engine that writes the tree of each message.
 
-ghost use Rattle.cap_run.specs.Demanding.{ReportsDumpUnder, no_demands};
+ghost use Rattle.cap_frame.specs.Limit.{limit_of};
+ghost use Rattle.cap_run.specs.Demanding.{ReportsDumpUnder};
 ghost use Rattle.cap_run.specs.Engines.{ReportsStream};
 ghost use Rattle.cap_run.specs.Reporting.{AllocatesNone};
 ghost use Rattle.cap_run.specs.Vetting.{ReportsTree};
-ghost use Rattle.cap_frame.specs.Limit.{limit_of};
-ghost use Rattle.cap_vet.specs.Limits.{depth_of, words_of};
+ghost use Rattle.cap_walk.specs.Demands.{no_demands};
+ghost use Rattle.cap_walk.specs.Limits.{depth_of, words_of};
 
 use crate::engines::stream::Counted;
-use crate::engines::whole::{Printer, after_text, vet_all};
+use crate::engines::vetting::{AcceptedPrinter, after_text, vet_all};
 use crate::settings::{Outcome, Settings};
 use crate::waiting::{FlushNever, Flushing};
 use cap_frame::Segments;
 use cap_text::{Cause, Page, RunFault, write_tree};
-use cap_vet::{Demands, Vetted};
+use cap_vet::{Demands, Limits, Vetted};
 use cap_words::{ByteOut, WordSource};
 use std::alloc::Global;
 
@@ -21,17 +22,19 @@ use std::alloc::Global;
 #[derive(Clone, Copy)]
 struct DumpPrinter;
 
-impl Printer for DumpPrinter {
-    ghost reports = { λ _. ReportsTree };
+impl AcceptedPrinter for DumpPrinter {
+    ghost reports = { λ _ _ _. ReportsTree };
 
     ghost allocates = { λ _ _ _. AllocatesNone };
 
-    fn print<M: Segments, O: ByteOut>(
+    fn print_accepted<M: Segments, O: ByteOut>(
         &self,
         page: &mut Page,
         out: &mut O,
+        _before: u64,
         number: u32,
         vetted: &Vetted<'_, M>,
+        _limits: Limits,
     ) -> Result<Counted, Cause> {
         after_text(write_tree(page, out, number, vetted), Counted::Accepted)
     }

@@ -1,65 +1,20 @@
 //! The engine that writes for each message whether it is accepted and uses no word twice.
 
-ghost use Rattle.cap_run.specs.Demanding.{OrFaultIn, ReportsMarked, AllocatesIn, no_demands};
+ghost use Rattle.cap_run.specs.Demanding.{OrFaultIn, ReportsExclusiveness, AllocatesIn};
 ghost use Rattle.cap_run.specs.Engines.{ReportsStream};
 ghost use Rattle.cap_run.specs.Vetting.{AllocatesMarks};
 ghost use Rattle.cap_frame.specs.Limit.{limit_of};
+ghost use Rattle.cap_walk.specs.Demands.{no_demands};
 
-use crate::engines::stream::Counted;
-use crate::engines::whole::{Judge, after_text, judge_all};
+use crate::engines::vet::VetPrinter;
+use crate::engines::vetting::{ExclusiveVetting, RefusalLines};
+use crate::engines::whole::print_messages;
 use crate::settings::{Outcome, Settings};
 use crate::waiting::{FlushNever, Flushing};
-use cap_frame::Segments;
-use cap_text::{Cause, Page, RunFault, write_accepted, write_overlap, write_refused};
-use cap_vet::{Demands, ExclusiveRefusal, Limits, vet_exclusive};
+use cap_text::{Cause, RunFault};
+use cap_vet::Demands;
 use cap_words::{ByteOut, WordSource};
 use std::alloc::Global;
-
-/// Vets a message under demands, and writes the numbers of its tree if it meets them and uses no word
-/// twice. Otherwise it writes the first reason why not, or the first pointer that overlaps.
-#[derive(Clone, Copy)]
-struct ExclusiveVetting {
-    alloc: Global,
-    limits: Limits,
-    demands: Demands,
-}
-
-impl Judge for ExclusiveVetting {
-    ghost reports = { λ v. OrFaultIn v.demands ReportsMarked v.limits };
-
-    ghost allocates = { λ v. AllocatesIn v.demands AllocatesMarks v.limits };
-
-    fn judge<M: Segments, O: ByteOut>(
-        &self,
-        page: &mut Page,
-        out: &mut O,
-        number: u32,
-        message: &M,
-    ) -> Result<Counted, Cause> {
-        match vet_exclusive(self.alloc, message, self.limits, self.demands) {
-            Ok(exclusive) => {
-                let report = exclusive.into_vetted().report();
-                let written = write_accepted(page, out, number, &report);
-                after_text(written, Counted::Accepted)
-            }
-            Err(ExclusiveRefusal::Refused(refusal)) => {
-                let written = write_refused(page, out, number, &refusal);
-                after_text(written, Counted::Refused)
-            }
-            Err(
-                ExclusiveRefusal::Overlap {
-                    segment,
-                    word,
-                    pointers,
-                },
-            ) => {
-                let written = write_overlap(page, out, number, segment, word, pointers);
-                after_text(written, Counted::Refused)
-            }
-            Err(ExclusiveRefusal::Memory) => Err(Cause::Memory),
-        }
-    }
-}
 
 /// Does what [`run_vet_exclusive_with`] does, without demands and without a flush: a message is
 /// accepted if its root denotes a finite tree within `settings.limits` and it uses no word twice.
@@ -74,7 +29,7 @@ pub fn run_vet_exclusive<S: WordSource, O: ByteOut>(
     settings: &Settings,
 ) -> Result<Outcome, RunFault>
     ensures { let s = settings.now in ReportsStream S.WordSource O.ByteOut
-        (OrFaultIn no_demands ReportsMarked s.limits) (AllocatesIn no_demands AllocatesMarks s.limits)
+        (OrFaultIn no_demands ReportsExclusiveness s.limits) (AllocatesIn no_demands AllocatesMarks s.limits)
         (limit_of s.size) s.messages source.old source.new out.old out.new result }
 {
     run_vet_exclusive_with(
@@ -125,13 +80,15 @@ pub fn run_vet_exclusive_with<S: WordSource, O: ByteOut, F: Flushing<S>>(
     flushing: &F,
 ) -> Result<Outcome, RunFault>
     ensures { let s = settings.now in ReportsStream S.WordSource O.ByteOut
-        (OrFaultIn demands ReportsMarked s.limits) (AllocatesIn demands AllocatesMarks s.limits)
+        (OrFaultIn demands ReportsExclusiveness s.limits) (AllocatesIn demands AllocatesMarks s.limits)
         (limit_of s.size) s.messages source.old source.new out.old out.new result }
 {
     let vetting = ExclusiveVetting {
         alloc,
         limits: settings.limits,
         demands,
+        accepted: VetPrinter,
+        refused: RefusalLines,
     };
-    judge_all(alloc, source, out, settings, vetting, flushing)
+    print_messages(alloc, source, out, settings, vetting, flushing)
 }

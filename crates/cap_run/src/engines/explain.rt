@@ -1,38 +1,40 @@
 //! The engines that write for each message whether it is accepted, and explain each refusal.
 
-ghost use Rattle.cap_explain.specs.Charges.{ChargeOf};
+ghost use Rattle.cap_explain.specs.Cycles.{IsFaultCycle};
 ghost use Rattle.cap_explain.specs.Explaining.{overlap_explanation};
+ghost use Rattle.cap_explain.specs.FaultLines.{fault_lines, earlier_lines};
 ghost use Rattle.cap_frame.specs.Limit.{limit_of};
-ghost use Rattle.cap_run.specs.Demanding.{AllocatesIn, AllocatesMarksUnder};
 ghost use Rattle.cap_run.specs.Breaking.{ExplainsStream};
+ghost use Rattle.cap_run.specs.Demanding.{AllocatesIn, AllocatesMarksUnder};
 ghost use Rattle.cap_run.specs.Differing.{OrDifference};
-ghost use Rattle.cap_run.specs.Explained.{HasLinesAfter, IsOverlapText, OrFaultLinesIn, RefusedByFilter, ReportsExplainedExclusiveUnder, ReportsExplainedUnder, ReportsMarkedLines, earlier_lines, fault_lines, filter_demands, filter_lines, start_after};
-ghost use Rattle.cap_run.specs.Running.{WritesOneOf};
+ghost use Rattle.cap_run.specs.Explained.{HasLinesAfter, IsOverlapText, OrFaultLinesIn, RefusedByFilter, ReportsExplainedExclusiveUnder, ReportsExplainedUnder, ReportsExclusivenessLines, filter_demands, filter_lines, start_after};
 ghost use Rattle.cap_run.specs.Reporting.{AllocatesNone};
-ghost use Rattle.cap_run.specs.Vetting.{ReportsAccepted, AllocatesMarks};
+ghost use Rattle.cap_run.specs.Running.{WritesOneOf};
+ghost use Rattle.cap_run.specs.Vetting.{AllocatesMarks};
 ghost use Rattle.cap_spec.specs.Accepting.{IsWithin};
-ghost use Rattle.cap_spec.specs.Occupying.{IsFirstOverlap};
-ghost use Rattle.cap_spec.specs.Tree.{Tree};
-ghost use Rattle.cap_vet.specs.Reports.{IsReport};
-ghost use Rattle.cap_vet.specs.Vettings.{message_of, report_of};
 ghost use Rattle.cap_spec.specs.GreatestLimits.{most_depth};
+ghost use Rattle.cap_spec.specs.Occupying.{IsFirstOverlap};
 ghost use Rattle.cap_spec.specs.Texts.{refused, strict_verdict, vet_text};
+ghost use Rattle.cap_spec.specs.Tree.{Tree};
 ghost use Rattle.cap_text.specs.Writing.{Writes, Wrote};
-ghost use Rattle.cap_vet.specs.Demands.{IsDemandFault};
-ghost use Rattle.cap_vet.specs.Limits.{depth_of, words_of};
-ghost use Rattle.std.specs.Prelude.{◌++◌, ◌<◌, ◌^◌, ◌≡◌, List, codes, true, ℕ};
+ghost use Rattle.cap_vet.specs.Vettings.{message_of, report_of};
+ghost use Rattle.cap_walk.specs.Demands.{IsDemandFault};
+ghost use Rattle.cap_walk.specs.Limits.{depth_of, words_of};
+ghost use Rattle.cap_walk.specs.Reports.{IsReport};
+ghost use Rattle.std.specs.Prelude.{◌++◌, ◌<◌, ◌^◌, ◌≡◌, List, Option, codes, Some, true, ℕ};
 
-use crate::engines::differing::{counted_by, write_difference_lines};
-use crate::engines::explaining::{PlacedJudge, explain_all};
+use crate::engines::differing::{counted_by, greatest_limits, write_difference_lines};
 use crate::engines::passing::write_more;
 use crate::engines::stream::Counted;
 use crate::engines::vet::VetPrinter;
-use crate::engines::whole::{Printer, after_text};
+use crate::engines::vetting::{AcceptedPrinter, after_text};
+use crate::engines::whole::{MessagePrinter, explain_messages};
 use crate::settings::{ExplainSettings, Outcome};
 use crate::waiting::Flushing;
 use cap_difference::first_difference;
 use cap_explain::{
-    Explanation, MessageStart, Numbers, explain, explain_earlier, explain_overlap, refusal_charge,
+    Explanation, MessageStart, Numbers, cycle_level, explain, explain_earlier, explain_overlap,
+    numbers_of,
 };
 use cap_frame::Segments;
 use cap_spec::StrictRefusal;
@@ -43,16 +45,6 @@ use cap_trace::{EarlierPointer, NamedPath};
 use cap_vet::{Demands, ExclusiveRefusal, Limits, Vetted, limits_under, vet_with};
 use cap_words::{ByteOut, OutFault, WordSource};
 use std::alloc::Global;
-
-/// The greatest limits.
-pub(crate) fn greatest_limits() -> Limits
-    ensures { depth_of result ≡ most_depth }
-{
-    match Limits::new(268435456, 256) {
-        Some(limits) => limits,
-        None => unreachable!(),
-    }
-}
 
 /// Where a message begins before which there are this many words of an input.
 fn start_after(packed: bool, before: u64) -> MessageStart
@@ -65,35 +57,13 @@ fn start_after(packed: bool, before: u64) -> MessageStart
     }
 }
 
-/// The numbers of a message that is refused within limits, and begins there in the input.
-fn numbers_of<M: Segments>(
-    message: &M,
-    refusal: &StrictRefusal,
-    limits: Limits,
-    start: Option<MessageStart>,
-) -> Numbers
-    ensures words { result.words ≡ words_of limits }
-    ensures depth { result.depth ≡ depth_of limits }
-    ensures charge { ChargeOf (M.segments message.now) (words_of limits) (depth_of limits) refusal.now
-        result.charge }
-    ensures table { result.has_table ≡ true }
-    ensures start { result.start ≡ start }
-{
-    Numbers {
-        words: limits.words(),
-        depth: limits.depth(),
-        charge: refusal_charge(message, refusal, limits),
-        has_table: true,
-        start,
-    }
-}
-
 /// Writes the lines that explain why a message that begins at `start` doesn't meet demands, after a
-/// text that isn't empty.
+/// text that isn't empty. They have this level of a cycle.
 fn write_explanation<M: Segments, O: ByteOut>(
     out: &mut O,
     message: &M,
     refusal: &StrictRefusal,
+    cycle: Option<u32>,
     limits: Limits,
     demands: Demands,
     start: MessageStart,
@@ -101,13 +71,13 @@ fn write_explanation<M: Segments, O: ByteOut>(
     ensures { let m = M.segments message.now in
         (h : IsDemandFault demands m (words_of limits) (depth_of limits) refusal.now)
         (before : O) (text : List ℕ) → Wrote O.ByteOut before out.old text →
-        Writes O.ByteOut before out.new result (text ++ fault_lines demands m (words_of limits)
-        (depth_of limits) refusal.now h start) }
+        Writes O.ByteOut before out.new result (text ++ fault_lines true demands m (words_of limits)
+        (depth_of limits) refusal.now h cycle (Some start)) }
 {
     let mut path = NamedPath::new();
     path.find_refused(message, limits, refusal);
     let within = limits_under(message, limits, demands);
-    let numbers = numbers_of(message, refusal, within, Some(start));
+    let numbers = numbers_of(message, refusal, cycle, within, true, Some(start));
     let mut lines = Explanation::new();
     explain(&mut lines, message, refusal, numbers, path.steps());
     write_more(out, lines.text())
@@ -151,7 +121,10 @@ fn write_filter_lines<M: Segments, O: ByteOut>(
 {
     match refusal {
         Some(refusal) => match write_filtered(page, out, refusal) {
-            Ok(()) => write_explanation(out, message, refusal, limits, filter_demands(), start),
+            // The message is accepted, so it is within the depth limit.
+            Ok(()) => {
+                write_explanation(out, message, refusal, None, limits, filter_demands(), start)
+            }
             Err(fault) => Err(fault),
         },
         None => Ok(()),
@@ -233,61 +206,6 @@ fn write_both_pointers<M: Segments, O: ByteOut>(
     }
 }
 
-/// What an engine that explains writes about an accepted message, before which it knows how many words
-/// of the input are.
-trait PlacedPrinter {
-    ghost use Rattle.cap_run.specs.declared.engines.stream.Counted.{Counted};
-
-    // The texts that may be written of a message that is accepted within these limits of words and
-    // levels, by the words of the messages before it and by its number. Each comes with what is
-    // counted then.
-    ghost reports: { Self → ℕ → ℕ → ℕ → ℕ → List (List ℕ) → List ℕ → Counted → Type 0 };
-
-    // The messages that need an allocation, of those that are accepted within these limits.
-    ghost allocates: { Self → ℕ → ℕ → List (List ℕ) → Type 0 };
-
-    /// Writes the text of an accepted message. What the page held before isn't written.
-    ///
-    /// # Errors
-    ///
-    /// - [`Cause::Output`]: the output failed. It took a prefix of the text.
-    /// - [`Cause::Memory`]: an allocation failed. The output took nothing.
-    fn print<M: Segments, O: ByteOut>(
-        &self,
-        page: &mut Page,
-        out: &mut O,
-        before: u64,
-        number: u32,
-        vetted: &Vetted<'_, M>,
-    ) -> Result<Counted, Cause>
-        requires { before < 2 ^ 61 }
-        ensures { (w d : ℕ) (t : Tree) → let m = M.segments (message_of vetted.now) in
-            IsReport m w d (report_of vetted.now) t →
-            WritesOneOf O.ByteOut (reports self.now before w d number m) (allocates self.now w d m)
-            out.old out.new result };
-}
-
-/// Writes the numbers of an accepted message's tree.
-#[derive(Clone, Copy)]
-struct AcceptedPrinter;
-
-impl PlacedPrinter for AcceptedPrinter {
-    ghost reports = { λ _ _. ReportsAccepted };
-
-    ghost allocates = { λ _ _ _. AllocatesNone };
-
-    fn print<M: Segments, O: ByteOut>(
-        &self,
-        page: &mut Page,
-        out: &mut O,
-        _before: u64,
-        number: u32,
-        vetted: &Vetted<'_, M>,
-    ) -> Result<Counted, Cause> {
-        VetPrinter.print(page, out, number, vetted)
-    }
-}
-
 /// Writes the numbers of an accepted message's tree if the message uses no word twice. Otherwise it
 /// explains the first pointer that overlaps.
 #[derive(Clone, Copy)]
@@ -296,18 +214,19 @@ struct OverlapPrinter {
     packed: bool,
 }
 
-impl PlacedPrinter for OverlapPrinter {
-    ghost reports = { λ t. ReportsMarkedLines t.packed };
+impl AcceptedPrinter for OverlapPrinter {
+    ghost reports = { λ t before _. ReportsExclusivenessLines t.packed before };
 
     ghost allocates = { λ _. AllocatesMarks };
 
-    fn print<M: Segments, O: ByteOut>(
+    fn print_accepted<M: Segments, O: ByteOut>(
         &self,
         page: &mut Page,
         out: &mut O,
         before: u64,
         number: u32,
         vetted: &Vetted<'_, M>,
+        _limits: Limits,
     ) -> Result<Counted, Cause> {
         match vetted.into_exclusive(self.alloc) {
             Ok(_) => {
@@ -353,7 +272,7 @@ struct Explaining<T> {
     printer: T,
 }
 
-impl<T: PlacedPrinter> Explaining<T> {
+impl<T: AcceptedPrinter> Explaining<T> {
     /// Writes the line of a message that doesn't meet the demands, and the lines that explain why.
     fn write_refusal<M: Segments, O: ByteOut>(
         &self,
@@ -366,15 +285,25 @@ impl<T: PlacedPrinter> Explaining<T> {
     ) -> Result<(), OutFault>
         requires { before < 2 ^ 61 }
         ensures { let m = M.segments message.now in let s = self.now in
-            (h : IsDemandFault s.demands m (words_of s.limits) (depth_of s.limits) refusal.now) →
-            Writes O.ByteOut out.old out.new result (vet_text number (strict_verdict refusal.now)
-            ++ fault_lines s.demands m (words_of s.limits) (depth_of s.limits) refusal.now h
-            (start_after s.packed before)) }
+            let words = words_of s.limits in let depth = depth_of s.limits in
+            (h : IsDemandFault s.demands m words depth refusal.now) → (cycle : Option ℕ)
+            × IsFaultCycle s.demands m words depth refusal.now h cycle
+            × Writes O.ByteOut out.old out.new result (vet_text number (strict_verdict refusal.now)
+            ++ fault_lines true s.demands m words depth refusal.now h cycle (Some (start_after s.packed before))) }
     {
+        let cycle = cycle_level(message, refusal, self.limits);
         match write_refused(page, out, number, refusal) {
             Ok(()) => {
                 let start = start_after(self.packed, before);
-                write_explanation(out, message, refusal, self.limits, self.demands, start)
+                write_explanation(
+                    out,
+                    message,
+                    refusal,
+                    cycle,
+                    self.limits,
+                    self.demands,
+                    start,
+                )
             }
             Err(fault) => Err(fault),
         }
@@ -394,11 +323,14 @@ impl<T: PlacedPrinter> Explaining<T> {
         ensures { (w : ℕ) (t : Tree) → let m = M.segments (message_of vetted.now) in let s = self.now in
             let d = depth_of s.limits in IsReport m w d (report_of vetted.now) t →
             WritesOneOf O.ByteOut (HasLinesAfter s.packed (words_of s.limits) d before m
-            (T.reports s.printer before w d number m)) (T.allocates s.printer w d m)
+            (T.reports s.printer before (words_of s.limits) w d number m)) (T.allocates s.printer w d m)
             out.old out.new result }
     {
         let refusal = filter_refusal(vetted.message(), self.limits);
-        match self.printer.print(page, out, before, number, vetted) {
+        match self
+            .printer
+            .print_accepted(page, out, before, number, vetted, self.limits)
+        {
             Ok(Counted::Accepted) => {
                 let start = start_after(self.packed, before);
                 let message = vetted.message();
@@ -426,7 +358,7 @@ impl<T: PlacedPrinter> Explaining<T> {
             let d = depth_of s.limits in IsReport m w d (report_of vetted.now) t →
             WritesOneOf O.ByteOut (OrDifference true (start_after s.packed before) number m
             (HasLinesAfter s.packed (words_of s.limits) d before m
-            (T.reports s.printer before w d number m))) (T.allocates s.printer w d m)
+            (T.reports s.printer before (words_of s.limits) w d number m))) (T.allocates s.printer w d m)
             out.old out.new result }
     {
         let difference = first_difference(vetted);
@@ -465,7 +397,7 @@ impl<T: PlacedPrinter> Explaining<T> {
             let d = depth_of s.limits in IsReport m w d (report_of vetted.now) t →
             WritesOneOf O.ByteOut (OrDifference s.canonical (start_after s.packed before) number m
             (HasLinesAfter s.packed (words_of s.limits) d before m
-            (T.reports s.printer before w d number m))) (T.allocates s.printer w d m)
+            (T.reports s.printer before (words_of s.limits) w d number m))) (T.allocates s.printer w d m)
             out.old out.new result }
     {
         if self.canonical {
@@ -476,13 +408,13 @@ impl<T: PlacedPrinter> Explaining<T> {
     }
 }
 
-impl<T: PlacedPrinter> PlacedJudge for Explaining<T> {
-    ghost reports = { λ e.
-        OrFaultLinesIn e.packed e.canonical e.demands (T.reports e.printer) e.limits };
+impl<T: AcceptedPrinter> MessagePrinter for Explaining<T> {
+    ghost reports = { λ e. OrFaultLinesIn e.packed e.canonical e.demands
+        (λ before. T.reports e.printer before (words_of e.limits)) e.limits };
 
     ghost allocates = { λ e. AllocatesIn e.demands (T.allocates e.printer) e.limits };
 
-    fn judge<M: Segments, O: ByteOut>(
+    fn print_message<M: Segments, O: ByteOut>(
         &self,
         page: &mut Page,
         out: &mut O,
@@ -502,7 +434,7 @@ impl<T: PlacedPrinter> PlacedJudge for Explaining<T> {
 
 /// Does what [`run_vet_with`](crate::run_vet_with) does, and explains each refusal. After the line of
 /// a refused message come lines with the path to its pointer, the pointer word and where it leads,
-/// what is exceeded, and the reason as a sentence.
+/// what is exceeded, whether the path returns to that word, and the reason as a sentence.
 ///
 /// If `settings.canonical` says so, a line on whether it is canonical comes after the text of an
 /// accepted message, with the first difference from its canonical copy and the lines that explain
@@ -530,9 +462,9 @@ pub fn run_explain<S: WordSource, O: ByteOut, F: Flushing<S>>(
         demands,
         packed: settings.packed,
         canonical: settings.canonical,
-        printer: AcceptedPrinter,
+        printer: VetPrinter,
     };
-    explain_all(alloc, source, out, settings, explaining, flushing)
+    explain_messages(alloc, source, out, settings, explaining, flushing)
 }
 
 /// Does what [`run_vet_exclusive_with`](crate::run_vet_exclusive_with) does, and explains each
@@ -566,5 +498,5 @@ pub fn run_explain_exclusive<S: WordSource, O: ByteOut, F: Flushing<S>>(
             packed: settings.packed,
         },
     };
-    explain_all(alloc, source, out, settings, explaining, flushing)
+    explain_messages(alloc, source, out, settings, explaining, flushing)
 }

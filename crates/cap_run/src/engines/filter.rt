@@ -2,12 +2,13 @@
 
 ghost use Rattle.cap_frame.specs.Limit.{limit_of};
 ghost use Rattle.cap_run.specs.Filtering.{FiltersUnder};
-ghost use Rattle.cap_run.specs.Sieves.{SieveAll, SieveNext, SieveStops, SieveUntil};
+ghost use Rattle.cap_run.specs.FilterSteps.{FilterReachesEnd, FilterReadsNext, FilterStops, FilterStopsEarly};
 ghost use Rattle.cap_run.specs.Streams.{EndsStream};
 ghost use Rattle.std.specs.Prelude.{◌≡◌, ◌≢◌, IfErr, IsFalse, IsTrue};
 
-use crate::engines::sifting::{Passage, Sieve};
-use crate::engines::stream::{Counted, count, end_stream};
+use crate::engines::reading::{end_stream, no_break};
+use crate::engines::sifting::{FilterState, MessageFilter};
+use crate::engines::stream::{Counted, count};
 use crate::settings::{FilterForm, Outcome, Settings};
 use crate::waiting::{AHEAD, Flushing};
 use cap_frame::{ByteMessage, read_into};
@@ -22,13 +23,13 @@ struct FilterBuffers {
     message: ByteMessage,
     /// A place for words that are looked at ahead.
     ahead: [u8; AHEAD],
-    passage: Passage,
+    state: FilterState,
 }
 
 /// Reads the next message and sifts it. `None` if the stream ends before it. The frame of an
 /// accepted message is flushed as `flushing` says.
 fn sift_next<S: WordSource, O: ByteOut, E: ByteOut, F: Flushing<S>>(
-    sieve: &Sieve,
+    filter: &MessageFilter,
     buffers: &mut FilterBuffers,
     source: &mut S,
     out: &mut O,
@@ -38,20 +39,20 @@ fn sift_next<S: WordSource, O: ByteOut, E: ByteOut, F: Flushing<S>>(
     number: u32,
 ) -> Result<Option<Counted>, Cause>
     ensures some { (counted : Counted) → result ≡ Ok (Some counted) →
-        SieveNext S.WordSource O.ByteOut E.ByteOut sieve.now (limit_of settings.now.size) number
+        FilterReadsNext S.WordSource O.ByteOut E.ByteOut filter.now (limit_of settings.now.size) number
         source.old source.new out.old out.new log.old log.new buffers.old buffers.new (Ok counted) }
     ensures none { result ≡ Ok None → EndsStream S.WordSource source.old source.new
         × (out.new ≡ out.old) × (log.new ≡ log.old)
-        × (buffers.new.passage.failed ≡ buffers.old.passage.failed) }
-    ensures err { IfErr result (SieveStops S.WordSource O.ByteOut E.ByteOut sieve.now
+        × (buffers.new.state.failed ≡ buffers.old.state.failed) }
+    ensures err { IfErr result (FilterStops S.WordSource O.ByteOut E.ByteOut filter.now
         (limit_of settings.now.size) number source.old source.new out.old out.new log.old log.new
         buffers.old buffers.new) }
 {
-    match read_into(sieve.alloc, source, settings.size, &mut buffers.message) {
+    match read_into(filter.alloc, source, settings.size, &mut buffers.message) {
         Ok(true) => {
             let wait = !flushing.before_message(source, settings.size, &mut buffers.ahead);
             let message = buffers.message.view();
-            match sieve.sift(&mut buffers.passage, out, log, wait, number, &message) {
+            match filter.sift(&mut buffers.state, out, log, wait, number, &message) {
                 Ok(counted) => Ok(Some(counted)),
                 Err(cause) => Err(cause),
             }
@@ -74,17 +75,17 @@ fn ends_after(counted: Counted, stop: bool) -> bool
 
 /// Sifts the messages of a stream to its end, or to the first refused one.
 fn sift_each<S: WordSource, O: ByteOut, E: ByteOut, F: Flushing<S>>(
-    sieve: &Sieve,
+    filter: &MessageFilter,
     source: &mut S,
     out: &mut O,
     log: &mut E,
     settings: &Settings,
     flushing: &F,
 ) -> Result<Outcome, RunFault>
-    ensures ok { SieveAll S.WordSource O.ByteOut E.ByteOut settings.now source.old source.new
-        out.old out.new log.old log.new sieve.now result }
-    ensures err { SieveUntil S.WordSource O.ByteOut E.ByteOut settings.now source.old source.new
-        out.old out.new log.old log.new sieve.now result }
+    ensures ok { FilterReachesEnd S.WordSource O.ByteOut E.ByteOut settings.now source.old source.new
+        out.old out.new log.old log.new filter.now result }
+    ensures err { FilterStopsEarly S.WordSource O.ByteOut E.ByteOut settings.now source.old source.new
+        out.old out.new log.old log.new filter.now result }
 {
     let mut outcome = Outcome {
         messages: 0,
@@ -92,13 +93,13 @@ fn sift_each<S: WordSource, O: ByteOut, E: ByteOut, F: Flushing<S>>(
         noncanonical: 0,
     };
     let mut buffers = FilterBuffers {
-        message: ByteMessage::blank(sieve.alloc),
+        message: ByteMessage::blank(filter.alloc),
         ahead: [0; AHEAD],
-        passage: Passage::new(),
+        state: FilterState::new(),
     };
     for number in 0..settings.messages {
         match sift_next(
-            sieve,
+            filter,
             &mut buffers,
             source,
             out,
@@ -109,7 +110,7 @@ fn sift_each<S: WordSource, O: ByteOut, E: ByteOut, F: Flushing<S>>(
         ) {
             Ok(Some(counted)) => {
                 outcome = count(outcome, counted);
-                if ends_after(counted, sieve.form.stop) {
+                if ends_after(counted, filter.form.stop) {
                     return Ok(outcome);
                 }
             }
@@ -120,7 +121,7 @@ fn sift_each<S: WordSource, O: ByteOut, E: ByteOut, F: Flushing<S>>(
             }),
         }
     }
-    match end_stream(source, settings.size) {
+    match end_stream(source, settings.size, &mut no_break(false)) {
         Ok(()) => Ok(outcome),
         Err(cause) => Err(RunFault {
             message: settings.messages,
@@ -178,11 +179,11 @@ pub fn run_filter<S: WordSource, O: ByteOut, E: ByteOut, F: Flushing<S>>(
     ensures { FiltersUnder S.WordSource O.ByteOut E.ByteOut settings.now source.old source.new
         out.old out.new log.old log.new form demands result }
 {
-    let sieve = Sieve {
+    let filter = MessageFilter {
         alloc,
         limits: settings.limits,
         demands,
         form,
     };
-    sift_each(&sieve, source, out, log, settings, flushing)
+    sift_each(&filter, source, out, log, settings, flushing)
 }

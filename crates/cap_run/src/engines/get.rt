@@ -1,20 +1,21 @@
 //! The engine that writes the node of each message at one path.
 
-ghost use Rattle.cap_run.specs.Demanding.{ReportsGetUnder, no_demands};
+ghost use Rattle.cap_frame.specs.Limit.{limit_of};
+ghost use Rattle.cap_run.specs.Demanding.{ReportsGetUnder};
 ghost use Rattle.cap_run.specs.Engines.{ReportsStream};
 ghost use Rattle.cap_run.specs.Reporting.{AllocatesNone};
 ghost use Rattle.cap_run.specs.Vetting.{ReportsNode};
-ghost use Rattle.cap_frame.specs.Limit.{limit_of};
-ghost use Rattle.cap_vet.specs.Limits.{depth_of, words_of};
+ghost use Rattle.cap_walk.specs.Demands.{no_demands};
+ghost use Rattle.cap_walk.specs.Limits.{depth_of, words_of};
 
 use crate::engines::stream::Counted;
-use crate::engines::whole::{Printer, after_text, vet_all};
+use crate::engines::vetting::{AcceptedPrinter, after_text, vet_all};
 use crate::settings::{Outcome, Settings};
 use crate::waiting::{FlushNever, Flushing};
 use cap_frame::Segments;
 use cap_spec::Step;
 use cap_text::{Cause, Page, RunFault, write_node};
-use cap_vet::{Demands, Vetted};
+use cap_vet::{Demands, Limits, Vetted};
 use cap_words::{ByteOut, WordSource};
 use std::alloc::Global;
 
@@ -24,17 +25,19 @@ struct GetPrinter<'p> {
     path: &'p [Step],
 }
 
-impl<'p> Printer for GetPrinter<'p> {
-    ghost reports = { λ t words depth. ReportsNode words depth t.path.now };
+impl<'p> AcceptedPrinter for GetPrinter<'p> {
+    ghost reports = { λ t _ _ words depth. ReportsNode words depth t.path.now };
 
     ghost allocates = { λ _ _ _. AllocatesNone };
 
-    fn print<M: Segments, O: ByteOut>(
+    fn print_accepted<M: Segments, O: ByteOut>(
         &self,
         page: &mut Page,
         out: &mut O,
+        _before: u64,
         number: u32,
         vetted: &Vetted<'_, M>,
+        _limits: Limits,
     ) -> Result<Counted, Cause> {
         let written = write_node(page, out, number, vetted.get(self.path));
         after_text(written, Counted::Accepted)

@@ -1,7 +1,6 @@
 //! The engine that writes for each message the hash of its canonical words.
 
 ghost use Rattle.cap_frame.specs.Limit.{limit_of};
-ghost use Rattle.cap_run.specs.Demanding.{no_demands};
 ghost use Rattle.cap_run.specs.Engines.{ReportsStream};
 ghost use Rattle.cap_run.specs.Hashing.{AllocatesCopy, AllocatesCopyUnder, ReportsDigestUnder, ReportsHashUnder, ReportsHashed, hash_line};
 ghost use Rattle.cap_spec.specs.Copies.{HasCopy, IsCanonical};
@@ -9,19 +8,20 @@ ghost use Rattle.cap_spec.specs.Messages.{segment_of};
 ghost use Rattle.cap_spec.specs.Paths.{IsFirstCap};
 ghost use Rattle.cap_spec.specs.Plain.{plain_text};
 ghost use Rattle.cap_text.specs.Writing.{Writes};
-ghost use Rattle.cap_vet.specs.Limits.{depth_of, words_of};
 ghost use Rattle.cap_vet.specs.Vettings.{message_of};
+ghost use Rattle.cap_walk.specs.Demands.{no_demands};
+ghost use Rattle.cap_walk.specs.Limits.{depth_of, words_of};
 ghost use Rattle.sha2.specs.Sha256.{sha256};
 ghost use Rattle.std.specs.Prelude.{◌≡◌, ◌<◌, IfOk, IsErrOf, List, length, ℕ};
 
 use crate::engines::stream::Counted;
-use crate::engines::whole::{Printer, after_text, vet_all};
+use crate::engines::vetting::{AcceptedPrinter, after_text, vet_all};
 use crate::settings::{Outcome, Settings};
 use crate::waiting::{FlushNever, Flushing};
 use cap_canon::{CanonFault, canonical_bytes, is_canonical};
 use cap_frame::Segments;
 use cap_text::{Cause, Page, RunFault, write_digest, write_hash, write_no_form};
-use cap_vet::{Demands, Vetted};
+use cap_vet::{Demands, Limits, Vetted};
 use cap_words::{ByteOut, OutFault, WordSource, bytes_of};
 use sha2::{Digest, Sha256};
 use std::alloc::Global;
@@ -101,17 +101,19 @@ struct HashPrinter {
     alone: bool,
 }
 
-impl Printer for HashPrinter {
-    ghost reports = { λ p. ReportsHashed p.alone };
+impl AcceptedPrinter for HashPrinter {
+    ghost reports = { λ p _ _. ReportsHashed p.alone };
 
     ghost allocates = { λ _. AllocatesCopy };
 
-    fn print<M: Segments, O: ByteOut>(
+    fn print_accepted<M: Segments, O: ByteOut>(
         &self,
         page: &mut Page,
         out: &mut O,
+        _before: u64,
         number: u32,
         vetted: &Vetted<'_, M>,
+        _limits: Limits,
     ) -> Result<Counted, Cause> {
         match digest_of(self.alloc, vetted) {
             Ok(digest) => {

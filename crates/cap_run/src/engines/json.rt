@@ -4,41 +4,47 @@ ghost use Rattle.cap_frame.specs.Limit.{limit_of};
 ghost use Rattle.cap_run.specs.Demanding.{AllocatesIn};
 ghost use Rattle.cap_run.specs.Engines.{ReportsStream};
 ghost use Rattle.cap_run.specs.Hashing.{AllocatesCopy};
-ghost use Rattle.cap_run.specs.JsonReports.{OrFaultJson, ReportsAcceptedJson, ReportsCheckedJson, ReportsHashedJson, ReportsMarkedJson};
+ghost use Rattle.cap_run.specs.JsonReports.{OrFaultJson, ReportsAcceptedJson, ReportsCheckedJson, ReportsFaultJson, ReportsHashedJson, ReportsExclusivenessJson, ReportsOverlapJson};
 ghost use Rattle.cap_run.specs.Reporting.{AllocatesNone};
 ghost use Rattle.cap_run.specs.Vetting.{AllocatesMarks};
 
 use crate::engines::check::count_of;
 use crate::engines::hash::digest_of;
 use crate::engines::stream::Counted;
-use crate::engines::whole::{Judge, Printer, after_text, judge_all};
+use crate::engines::vetting::{
+    AcceptedPrinter, ExclusiveVetting, RefusalPrinter, Vetting, after_text,
+};
+use crate::engines::whole::{MessagePrinter, print_messages};
 use crate::settings::{Outcome, Settings};
 use crate::waiting::Flushing;
 use cap_canon::{CanonFault, check_with};
 use cap_frame::Segments;
+use cap_spec::StrictRefusal;
 use cap_text::{
     Cause, Page, RunFault, write_accepted_json, write_check_json, write_hash_json,
     write_no_form_json, write_overlap_json, write_refused_json,
 };
-use cap_vet::{Demands, ExclusiveRefusal, Limits, Vetted, vet_exclusive, vet_with};
-use cap_words::{ByteOut, WordSource};
+use cap_vet::{Demands, Limits, Vetted};
+use cap_words::{ByteOut, OutFault, WordSource};
 use std::alloc::Global;
 
 /// Writes the numbers of a message's tree.
 #[derive(Clone, Copy)]
-struct AcceptedPrinter;
+struct NumbersPrinter;
 
-impl Printer for AcceptedPrinter {
-    ghost reports = { λ _. ReportsAcceptedJson };
+impl AcceptedPrinter for NumbersPrinter {
+    ghost reports = { λ _ _ _. ReportsAcceptedJson };
 
     ghost allocates = { λ _ _ _. AllocatesNone };
 
-    fn print<M: Segments, O: ByteOut>(
+    fn print_accepted<M: Segments, O: ByteOut>(
         &self,
         page: &mut Page,
         out: &mut O,
+        _before: u64,
         number: u32,
         vetted: &Vetted<'_, M>,
+        _limits: Limits,
     ) -> Result<Counted, Cause> {
         let written = write_accepted_json(page, out, number, &vetted.report());
         after_text(written, Counted::Accepted)
@@ -51,17 +57,19 @@ struct HashPrinter {
     alloc: Global,
 }
 
-impl Printer for HashPrinter {
-    ghost reports = { λ _. ReportsHashedJson };
+impl AcceptedPrinter for HashPrinter {
+    ghost reports = { λ _ _ _. ReportsHashedJson };
 
     ghost allocates = { λ _. AllocatesCopy };
 
-    fn print<M: Segments, O: ByteOut>(
+    fn print_accepted<M: Segments, O: ByteOut>(
         &self,
         page: &mut Page,
         out: &mut O,
+        _before: u64,
         number: u32,
         vetted: &Vetted<'_, M>,
+        _limits: Limits,
     ) -> Result<Counted, Cause> {
         match digest_of(self.alloc, vetted) {
             Ok(digest) => {
@@ -77,80 +85,39 @@ impl Printer for HashPrinter {
     }
 }
 
-/// Vets a message under demands, and writes the object of its printer if the message meets them.
-/// Otherwise it writes the object with the first reason why not, and the place.
+/// Writes the object of a message that is refused.
 #[derive(Clone, Copy)]
-struct Vetting<T> {
-    limits: Limits,
-    demands: Demands,
-    printer: T,
-}
+struct RefusalObjects;
 
-impl<T: Printer> Judge for Vetting<T> {
-    ghost reports = { λ v. OrFaultJson v.demands (T.reports v.printer) v.limits };
+impl RefusalPrinter for RefusalObjects {
+    ghost refuses = { λ _. ReportsFaultJson };
 
-    ghost allocates = { λ v. AllocatesIn v.demands (T.allocates v.printer) v.limits };
+    ghost overlaps = { λ _. ReportsOverlapJson };
 
-    fn judge<M: Segments, O: ByteOut>(
+    fn write_refused<M: Segments, O: ByteOut>(
         &self,
         page: &mut Page,
         out: &mut O,
         number: u32,
-        message: &M,
-    ) -> Result<Counted, Cause> {
-        match vet_with(message, self.limits, self.demands) {
-            Ok(vetted) => self.printer.print(page, out, number, &vetted),
-            Err(refusal) => {
-                let written = write_refused_json(page, out, number, &refusal);
-                after_text(written, Counted::Refused)
-            }
-        }
+        _message: &M,
+        refusal: &StrictRefusal,
+        _limits: Limits,
+    ) -> Result<(), OutFault> {
+        write_refused_json(page, out, number, refusal)
     }
-}
 
-/// Vets a message under demands, and writes the object of its verdict. A message that uses a word twice
-/// is refused.
-#[derive(Clone, Copy)]
-struct ExclusiveVetting {
-    alloc: Global,
-    limits: Limits,
-    demands: Demands,
-}
-
-impl Judge for ExclusiveVetting {
-    ghost reports = { λ v. OrFaultJson v.demands ReportsMarkedJson v.limits };
-
-    ghost allocates = { λ v. AllocatesIn v.demands AllocatesMarks v.limits };
-
-    fn judge<M: Segments, O: ByteOut>(
+    fn write_overlap<M: Segments, O: ByteOut>(
         &self,
         page: &mut Page,
         out: &mut O,
         number: u32,
-        message: &M,
-    ) -> Result<Counted, Cause> {
-        match vet_exclusive(self.alloc, message, self.limits, self.demands) {
-            Ok(exclusive) => {
-                let report = exclusive.into_vetted().report();
-                let written = write_accepted_json(page, out, number, &report);
-                after_text(written, Counted::Accepted)
-            }
-            Err(ExclusiveRefusal::Refused(refusal)) => {
-                let written = write_refused_json(page, out, number, &refusal);
-                after_text(written, Counted::Refused)
-            }
-            Err(
-                ExclusiveRefusal::Overlap {
-                    segment,
-                    word,
-                    pointers,
-                },
-            ) => {
-                let written = write_overlap_json(page, out, number, segment, word, pointers);
-                after_text(written, Counted::Refused)
-            }
-            Err(ExclusiveRefusal::Memory) => Err(Cause::Memory),
-        }
+        _message: &M,
+        segment: u32,
+        word: u32,
+        pointers: u64,
+        _limits: Limits,
+    ) -> Result<(), OutFault> {
+        write_overlap_json(page, out, number, segment, word, pointers)
     }
 }
 
@@ -162,15 +129,16 @@ struct Checking {
     demands: Demands,
 }
 
-impl Judge for Checking {
-    ghost reports = { λ c. OrFaultJson c.demands ReportsCheckedJson c.limits };
+impl MessagePrinter for Checking {
+    ghost reports = { λ c _. OrFaultJson c.demands ReportsCheckedJson c.limits };
 
     ghost allocates = { λ _. AllocatesNone };
 
-    fn judge<M: Segments, O: ByteOut>(
+    fn print_message<M: Segments, O: ByteOut>(
         &self,
         page: &mut Page,
         out: &mut O,
+        _before: u64,
         number: u32,
         message: &M,
     ) -> Result<Counted, Cause> {
@@ -208,9 +176,10 @@ pub fn run_vet_json<S: WordSource, O: ByteOut, F: Flushing<S>>(
     let vetting = Vetting {
         limits: settings.limits,
         demands,
-        printer: AcceptedPrinter,
+        accepted: NumbersPrinter,
+        refused: RefusalObjects,
     };
-    judge_all(alloc, source, out, settings, vetting, flushing)
+    print_messages(alloc, source, out, settings, vetting, flushing)
 }
 
 /// Does what [`run_vet_exclusive_with`](crate::run_vet_exclusive_with) does, and writes a JSON object
@@ -228,15 +197,17 @@ pub fn run_vet_exclusive_json<S: WordSource, O: ByteOut, F: Flushing<S>>(
     flushing: &F,
 ) -> Result<Outcome, RunFault>
     ensures { let s = settings.now in ReportsStream S.WordSource O.ByteOut
-        (OrFaultJson demands ReportsMarkedJson s.limits) (AllocatesIn demands AllocatesMarks s.limits)
+        (OrFaultJson demands ReportsExclusivenessJson s.limits) (AllocatesIn demands AllocatesMarks s.limits)
         (limit_of s.size) s.messages source.old source.new out.old out.new result }
 {
     let vetting = ExclusiveVetting {
         alloc,
         limits: settings.limits,
         demands,
+        accepted: NumbersPrinter,
+        refused: RefusalObjects,
     };
-    judge_all(alloc, source, out, settings, vetting, flushing)
+    print_messages(alloc, source, out, settings, vetting, flushing)
 }
 
 /// Does what [`run_check_with`](crate::run_check_with) does, and writes a JSON object for each message
@@ -261,7 +232,7 @@ pub fn run_check_json<S: WordSource, O: ByteOut, F: Flushing<S>>(
         limits: settings.limits,
         demands,
     };
-    judge_all(alloc, source, out, settings, checking, flushing)
+    print_messages(alloc, source, out, settings, checking, flushing)
 }
 
 /// Does what [`run_hash_with`](crate::run_hash_with) does, and writes a JSON object for each message in
@@ -285,7 +256,8 @@ pub fn run_hash_json<S: WordSource, O: ByteOut, F: Flushing<S>>(
     let vetting = Vetting {
         limits: settings.limits,
         demands,
-        printer: HashPrinter { alloc },
+        accepted: HashPrinter { alloc },
+        refused: RefusalObjects,
     };
-    judge_all(alloc, source, out, settings, vetting, flushing)
+    print_messages(alloc, source, out, settings, vetting, flushing)
 }

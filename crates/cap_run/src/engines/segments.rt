@@ -5,11 +5,12 @@ ghost use Rattle.cap_run.specs.Reporting.{ReportsSegments, AllocatesNone};
 ghost use Rattle.cap_frame.specs.Limit.{limit_of};
 ghost use Rattle.std.specs.Prelude.{false};
 
+use crate::engines::reading::no_break;
 use crate::engines::stream::{Counted, Engine, print_all};
 use crate::settings::{Outcome, Settings};
 use crate::waiting::{FlushNever, Flushing};
 use cap_frame::{Outline, SizeLimit, read_outline};
-use cap_text::{Cause, Page, RunFault, write_segments};
+use cap_text::{Cause, Page, RunFault, StreamBreak, write_segments};
 use cap_words::{ByteOut, WordSource};
 
 /// The outline of the message that was read last, and the page for its text.
@@ -24,11 +25,15 @@ struct OutlineBuffers {
 struct SegmentsEngine;
 
 impl Engine for SegmentsEngine {
-    ghost reports = { λ _. ReportsSegments };
+    ghost reports = { λ _ _. ReportsSegments };
+
+    ghost counts = { λ _. false };
 
     ghost allocates = { λ _. AllocatesNone };
 
     ghost takes_memory = { false };
+
+    ghost notes = { false };
 
     type Buffers = OutlineBuffers;
 
@@ -45,11 +50,13 @@ impl Engine for SegmentsEngine {
         source: &mut S,
         out: &mut O,
         limit: SizeLimit,
+        _before: u64,
         number: u32,
-    ) -> Result<Option<Counted>, Cause> {
+        _at: &mut StreamBreak,
+    ) -> Result<Option<(Counted, u64)>, Cause> {
         match read_outline(source, limit, &mut buffers.outline) {
             Ok(true) => match write_segments(&mut buffers.page, out, number, &buffers.outline) {
-                Ok(()) => Ok(Some(Counted::Accepted)),
+                Ok(()) => Ok(Some((Counted::Accepted, 0))),
                 Err(fault) => Err(Cause::Output(fault)),
             },
             Ok(false) => Ok(None),
@@ -101,5 +108,12 @@ pub fn run_segments_with<S: WordSource, O: ByteOut, F: Flushing<S>>(
     ensures { let s = settings.now in ShowsStream S.WordSource O.ByteOut
         (limit_of s.size) s.messages source.old source.new out.old out.new result }
 {
-    print_all(source, out, settings, &SegmentsEngine, flushing)
+    print_all(
+        source,
+        out,
+        settings,
+        &SegmentsEngine,
+        &mut no_break(false),
+        flushing,
+    )
 }

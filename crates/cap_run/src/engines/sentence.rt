@@ -1,7 +1,30 @@
 //! The reason of a refusal as a sentence, from the lines that explain the refusal.
 
+ghost use Rattle.cap_run.specs.ExplainedJson.{plain_lines};
 ghost use Rattle.cap_run.specs.LastLines.{GivesReason};
 ghost use Rattle.std.specs.Prelude.{◌<◌, ◌≡◌, ◌≤◌, List, length, ℕ};
+
+use cap_explain::{Explanation, Numbers, explain};
+use cap_frame::Segments;
+use cap_spec::StrictRefusal;
+
+/// The lines that explain a refusal, without a path. The last gives its sentence, which no number
+/// changes.
+pub(crate) fn reason_lines<M: Segments>(message: &M, refusal: &StrictRefusal) -> Explanation
+    ensures { result ≡ plain_lines (M.segments message.now) refusal.now }
+{
+    let numbers = Numbers {
+        words: 0,
+        depth: 0,
+        charge: None,
+        cycle: None,
+        has_table: true,
+        start: None,
+    };
+    let mut lines = Explanation::new();
+    explain(&mut lines, message, refusal, numbers, None);
+    lines
+}
 
 /// How many bytes of a line with a reason are before its sentence: those of `  reason `.
 const BEFORE: usize = 9;

@@ -1,9 +1,9 @@
 //! Vetting a message, and then passing it on or writing its line.
 
 ghost use Rattle.cap_run.specs.Filtering.{Logged, frame_in};
-ghost use Rattle.cap_run.specs.Sieves.{SiftsOne, SieveReports, SieveAllocates};
-ghost use Rattle.cap_run.specs.Sifting.{FindsObjection, objection_text};
-ghost use Rattle.cap_run.specs.Demanding.{OrFaultIn, ReportsMarked, AllocatesIn};
+ghost use Rattle.cap_run.specs.FilterSteps.{SiftsOne, FilterReports, FilterAllocates};
+ghost use Rattle.cap_run.specs.Sifting.{FindsRejection, rejection_text};
+ghost use Rattle.cap_run.specs.Demanding.{OrFaultIn, ReportsExclusiveness, AllocatesIn};
 ghost use Rattle.cap_run.specs.Running.{Appended};
 ghost use Rattle.cap_run.specs.Vetting.{AllocatesMarks};
 ghost use Rattle.cap_text.specs.Writing.{Stopped, Writes};
@@ -21,7 +21,7 @@ use std::alloc::Global;
 
 /// Why a message is refused.
 #[derive(Clone, Copy)]
-pub(crate) enum Objection {
+pub(crate) enum Rejection {
     /// It doesn't meet the demands.
     Unmet(StrictRefusal),
     /// It meets them, and uses a word twice. This is the first pointer that overlaps.
@@ -33,17 +33,17 @@ pub(crate) enum Objection {
 }
 
 /// Writes the line of a refused message.
-pub(crate) fn write_objection<E: ByteOut>(
+pub(crate) fn write_rejection<E: ByteOut>(
     page: &mut Page,
     log: &mut E,
     number: u32,
-    objection: &Objection,
+    rejection: &Rejection,
 ) -> Result<(), OutFault>
-    ensures { Writes E.ByteOut log.old log.new result (objection_text number objection.now) }
+    ensures { Writes E.ByteOut log.old log.new result (rejection_text number rejection.now) }
 {
-    match objection {
-        Objection::Unmet(refusal) => write_refused(page, log, number, refusal),
-        Objection::Overlap {
+    match rejection {
+        Rejection::Unmet(refusal) => write_refused(page, log, number, refusal),
+        Rejection::Overlap {
             segment,
             word,
             pointers,
@@ -56,11 +56,11 @@ fn write_note<E: ByteOut>(
     page: &mut Page,
     log: &mut E,
     number: u32,
-    objection: &Objection,
+    rejection: &Rejection,
 ) -> Result<(), OutFault>
-    ensures { Writes E.ByteOut log.old log.new result (objection_text number objection.now) }
+    ensures { Writes E.ByteOut log.old log.new result (rejection_text number rejection.now) }
 {
-    match write_objection(page, log, number, objection) {
+    match write_rejection(page, log, number, rejection) {
         Ok(()) => log.flush(),
         Err(fault) => Err(fault),
     }
@@ -72,15 +72,15 @@ fn note<E: ByteOut>(
     log: &mut E,
     failed: bool,
     number: u32,
-    objection: &Objection,
+    rejection: &Rejection,
 ) -> bool
     ensures { (first : E) (text : List ℕ) → Logged E.ByteOut first log.old text failed →
-        Logged E.ByteOut first log.new (text ++ objection_text number objection.now) result }
+        Logged E.ByteOut first log.new (text ++ rejection_text number rejection.now) result }
 {
     if failed {
         return true;
     }
-    match write_note(page, log, number, objection) {
+    match write_note(page, log, number, rejection) {
         Ok(()) => false,
         Err(_) => true,
     }
@@ -134,7 +134,7 @@ fn flush_waiting<O: ByteOut>(out: &mut O, waits: bool) -> Result<(), OutFault>
 
 /// What is kept from one message to the next, beside the message.
 #[derive(Drop)]
-pub(crate) struct Passage {
+pub(crate) struct FilterState {
     /// What frames are written from.
     buffers: FrameBuffers,
     /// The page for a line.
@@ -145,13 +145,13 @@ pub(crate) struct Passage {
     pub(crate) waits: bool,
 }
 
-impl Passage {
+impl FilterState {
     /// Nothing was written yet.
-    pub(crate) fn new() -> Passage
+    pub(crate) fn new() -> FilterState
         ensures failed { result.failed ≡ false }
         ensures waits { result.waits ≡ false }
     {
-        Passage {
+        FilterState {
             buffers: FrameBuffers::new(),
             page: Page::new(),
             failed: false,
@@ -162,29 +162,29 @@ impl Passage {
 
 /// How messages are vetted and passed on.
 #[derive(Clone, Copy)]
-pub(crate) struct Sieve {
+pub(crate) struct MessageFilter {
     pub(crate) alloc: Global,
     pub(crate) limits: Limits,
     pub(crate) demands: Demands,
     pub(crate) form: FilterForm,
 }
 
-impl Sieve {
+impl MessageFilter {
     /// Vets a message. `None` if it is accepted.
     ///
     /// # Errors
     ///
     /// [`Cause::Memory`]: an allocation failed.
-    fn judge<M: Segments>(&self, message: &M) -> Result<Option<Objection>, Cause>
+    fn vet<M: Segments>(&self, message: &M) -> Result<Option<Rejection>, Cause>
         ensures { let v = self.now in
-            FindsObjection (SieveReports v) (SieveAllocates v) (M.segments message.now) result }
+            FindsRejection (FilterReports v) (FilterAllocates v) (M.segments message.now) result }
     {
         if self.form.exclusive {
-            return self.judge_exclusively(message);
+            return self.vet_exclusively(message);
         }
         match vet_with(message, self.limits, self.demands) {
             Ok(_) => Ok(None),
-            Err(refusal) => Ok(Some(Objection::Unmet(refusal))),
+            Err(refusal) => Ok(Some(Rejection::Unmet(refusal))),
         }
     }
 
@@ -193,20 +193,20 @@ impl Sieve {
     /// # Errors
     ///
     /// [`Cause::Memory`]: the allocation of the marks failed.
-    fn judge_exclusively<M: Segments>(&self, message: &M) -> Result<Option<Objection>, Cause>
-        ensures { let v = self.now in FindsObjection (OrFaultIn v.demands ReportsMarked v.limits)
+    fn vet_exclusively<M: Segments>(&self, message: &M) -> Result<Option<Rejection>, Cause>
+        ensures { let v = self.now in FindsRejection (OrFaultIn v.demands ReportsExclusiveness v.limits)
             (AllocatesIn v.demands AllocatesMarks v.limits) (M.segments message.now) result }
     {
         match vet_exclusive(self.alloc, message, self.limits, self.demands) {
             Ok(_) => Ok(None),
-            Err(ExclusiveRefusal::Refused(refusal)) => Ok(Some(Objection::Unmet(refusal))),
+            Err(ExclusiveRefusal::Refused(refusal)) => Ok(Some(Rejection::Unmet(refusal))),
             Err(
                 ExclusiveRefusal::Overlap {
                     segment,
                     word,
                     pointers,
                 },
-            ) => Ok(Some(Objection::Overlap {
+            ) => Ok(Some(Rejection::Overlap {
                 segment,
                 word,
                 pointers,
@@ -228,7 +228,7 @@ impl Sieve {
     /// - [`Cause::Memory`]: an allocation failed. The output took nothing.
     pub(crate) fn sift<'b, O: ByteOut, E: ByteOut>(
         &self,
-        passage: &mut Passage,
+        state: &mut FilterState,
         out: &mut O,
         log: &mut E,
         wait: bool,
@@ -237,26 +237,20 @@ impl Sieve {
     ) -> Result<Counted, Cause>
         ensures { let m = ⟦<ByteView<'b> as Segments>⟧.segments message.now in
             SiftsOne O.ByteOut E.ByteOut self.now number m out.old out.new log.old log.new
-            passage.old passage.new result }
+            state.old state.new result }
     {
-        match self.judge(message) {
-            Ok(None) => match pass_on(out, message, self.form.pack, wait, &mut passage.buffers) {
+        match self.vet(message) {
+            Ok(None) => match pass_on(out, message, self.form.pack, wait, &mut state.buffers) {
                 Ok(()) => {
-                    passage.waits = wait;
+                    state.waits = wait;
                     Ok(Counted::Accepted)
                 }
                 Err(fault) => Err(Cause::Output(fault)),
             },
-            Ok(Some(objection)) => match flush_waiting(out, passage.waits) {
+            Ok(Some(rejection)) => match flush_waiting(out, state.waits) {
                 Ok(()) => {
-                    passage.waits = false;
-                    passage.failed = note(
-                        &mut passage.page,
-                        log,
-                        passage.failed,
-                        number,
-                        &objection,
-                    );
+                    state.waits = false;
+                    state.failed = note(&mut state.page, log, state.failed, number, &rejection);
                     Ok(Counted::Refused)
                 }
                 Err(fault) => Err(Cause::Output(fault)),

@@ -6,11 +6,11 @@ ghost use Rattle.cap_spec.specs.Frames.{frame_text};
 ghost use Rattle.cap_spec.specs.Plain.{plain_text};
 ghost use Rattle.std.specs.Prelude.{◌≡◌, IfSome, Some};
 
-use crate::engines::explaining::{ExplainBuffers, read_next, stopped_at};
 use crate::engines::passing::{FrameBuffers, write_frame};
+use crate::engines::reading::{no_break, read_next};
 use crate::settings::ExplainSettings;
-use cap_frame::{ByteView, FrameFault, Segments};
-use cap_text::{Cause, ExplainedFault, RunFault, SingleFault};
+use cap_frame::{ByteMessage, ByteView, FrameFault, Segments};
+use cap_text::{Cause, ExplainedFault, RunFault, SingleFault, StreamBreak};
 use cap_words::{ByteOut, SourceFault, VecOut, WordSource};
 use std::alloc::Global;
 
@@ -23,6 +23,16 @@ fn frame_of<'b>(alloc: Global, message: &ByteView<'b>) -> Option<VecOut>
     match write_frame(&mut frame, message, &mut FrameBuffers::new()) {
         Ok(()) => Some(frame),
         Err(_) => None,
+    }
+}
+
+/// The fault at a message, and what is known of the message.
+fn stopped_at(message: u32, cause: Cause, at: StreamBreak) -> ExplainedFault
+    ensures { result ≡ record { fault = record { message = message; cause = cause }; at = at } }
+{
+    ExplainedFault {
+        fault: RunFault { message, cause },
+        at,
     }
 }
 
@@ -48,14 +58,15 @@ pub fn read_single<S: WordSource>(
     ensures { let s = settings.now in
         ReadsSingle S.WordSource s.packed (limit_of s.size) source.old source.new result }
 {
-    let mut buffers = ExplainBuffers::new(alloc);
-    match read_next(alloc, source, settings, &mut buffers) {
-        Ok(true) => match frame_of(alloc, &buffers.message.view()) {
+    let mut message = ByteMessage::blank(alloc);
+    let mut at = no_break(settings.packed);
+    match read_next(alloc, source, settings.size, &mut message, &mut at) {
+        Ok(true) => match frame_of(alloc, &message.view()) {
             Some(frame) => Ok(Some(frame)),
-            None => Err(stopped_at(0, Cause::Memory, buffers.at)),
+            None => Err(stopped_at(0, Cause::Memory, at)),
         },
         Ok(false) => Ok(None),
-        Err(fault) => Err(stopped_at(0, Cause::Frame(fault), buffers.at)),
+        Err(fault) => Err(stopped_at(0, Cause::Frame(fault), at)),
     }
 }
 

@@ -1,16 +1,18 @@
 //! Reading the messages of a stream, and writing a text for each.
 
 ghost use Rattle.cap_frame.specs.Limit.{limit_of};
-ghost use Rattle.cap_run.specs.Engines.{ReachesEnd, StopsEarly, ReportsStream};
-ghost use Rattle.cap_run.specs.Running.{EndStops, StepStops, StepReports};
+ghost use Rattle.cap_run.specs.Breaking.{BreaksAfter, BreaksBy};
+ghost use Rattle.cap_run.specs.Engines.{ReachesEnd, ReportsAll, StopsEarly};
+ghost use Rattle.cap_run.specs.Running.{StepStops, StepReports};
 ghost use Rattle.cap_run.specs.Streams.{EndsStream};
 ghost use Rattle.cap_run.specs.Reporting.{one_noncanonical, one_refused};
-ghost use Rattle.std.specs.Prelude.{◌+◌, ◌-◌, ◌<◌, ◌^◌, ◌≡◌, ◌≤◌, Bool, IfErr, IfOk, IfSome, List, OnOk, true, ℕ};
+ghost use Rattle.std.specs.Prelude.{◌+◌, ◌-◌, ◌<◌, ◌^◌, ◌≡◌, ◌≤◌, Bool, IfErr, IfOk, IfSome, List, true, ℕ};
 
+use crate::engines::reading::end_stream;
 use crate::settings::{Outcome, Settings};
 use crate::waiting::{AHEAD, Flushing, flush_output};
-use cap_frame::{FrameFault, Outline, SizeLimit, read_outline};
-use cap_text::{Cause, RunFault};
+use cap_frame::{FrameFault, SizeLimit};
+use cap_text::{Cause, RunFault, StreamBreak};
 use cap_words::{ByteOut, OutFault, WordSource};
 
 /// What is counted of a message.
@@ -28,8 +30,12 @@ pub(crate) enum Counted {
 pub(crate) trait Engine {
     ghost use Rattle.cap_run.specs.declared.engines.stream.Counted.{Counted};
 
-    // The texts that may be written of a message, by its number, each with what is counted then.
-    ghost reports: { Self → ℕ → List (List ℕ) → List ℕ → Counted → Type 0 };
+    // The texts that may be written of a message, by the words of the stream before it and by its
+    // number. Each comes with what is counted then.
+    ghost reports: { Self → ℕ → ℕ → List (List ℕ) → List ℕ → Counted → Type 0 };
+
+    // Whether it counts the words before each message. Otherwise 0 stands for them.
+    ghost counts: { Self → Bool };
 
     // The messages at which an allocation may fail after they were read.
     ghost allocates: { Self → List (List ℕ) → Type 0 };
@@ -37,14 +43,18 @@ pub(crate) trait Engine {
     // Whether it allocates to read a message.
     ghost takes_memory: { Bool };
 
+    // Whether it keeps what is known of a message that can't be read.
+    ghost notes: { Bool };
+
     /// The buffers that it fills again at each message, and keeps from one message to the next.
     type Buffers: Drop;
 
     /// The buffers as they are before the first message.
     fn buffers(&self) -> Self::Buffers;
 
-    /// Reads the next message and writes its text. `None` if the stream ends before it. The text
-    /// doesn't depend on what the buffers held before.
+    /// Reads the next message and writes its text. Returns what is counted of the message, and its
+    /// words. `None` if the stream ends before it. The text doesn't depend on what the buffers held
+    /// before. If the message can't be read, `at` is what is known of it.
     ///
     /// # Errors
     ///
@@ -58,30 +68,23 @@ pub(crate) trait Engine {
         source: &mut S,
         out: &mut O,
         limit: SizeLimit,
+        before: u64,
         number: u32,
-    ) -> Result<Option<Counted>, Cause>
-        ensures some { IfOk result (λ r. IfSome r (StepReports S.WordSource O.ByteOut
-            (reports self.now) (limit_of limit) number source.old source.new out.old out.new)) }
+        at: &mut StreamBreak,
+    ) -> Result<Option<(Counted, u64)>, Cause>
+        requires { before < 2 ^ 61 }
+        ensures some { IfOk result (λ r. IfSome r (λ step. StepReports S.WordSource O.ByteOut
+            (counts self.now) (reports self.now before) (limit_of limit) number
+            source.old source.new out.old out.new step.0 step.1)) }
         ensures none { result ≡ Ok None →
             EndsStream S.WordSource source.old source.new × (out.new ≡ out.old) }
         ensures err { IfErr result (λ cause. StepStops S.WordSource O.ByteOut
-            (reports self.now) (allocates self.now) (limit_of limit) number
+            (reports self.now before) (allocates self.now) (limit_of limit) number
             source.old source.new out.old out.new cause) }
-        ensures memory { result ≡ Err (Cause.Frame FrameFault.Memory) → takes_memory ≡ true };
-}
-
-/// Checks that the stream ends here. One more message is [`Cause::TooManyMessages`].
-pub(crate) fn end_stream<S: WordSource>(source: &mut S, limit: SizeLimit) -> Result<(), Cause>
-    ensures ok { OnOk result (EndsStream S.WordSource source.old source.new) }
-    ensures err { IfErr result (λ cause.
-        EndStops S.WordSource (limit_of limit) source.old source.new cause) }
-    ensures memory { result ≡ Err (Cause.Frame FrameFault.Memory) → ⊥ }
-{
-    match read_outline(source, limit, &mut Outline::new()) {
-        Ok(true) => Err(Cause::TooManyMessages),
-        Ok(false) => Ok(()),
-        Err(fault) => Err(Cause::Frame(fault)),
-    }
+        ensures memory { result ≡ Err (Cause.Frame FrameFault.Memory) → takes_memory ≡ true }
+        ensures packed { at.new.packed ≡ at.old.packed }
+        ensures at { notes ≡ true → IfErr result (λ cause.
+            BreaksBy S.WordSource at.old.packed (limit_of limit) source.old cause at.new) };
 }
 
 /// The fault of an output at a message.
@@ -121,16 +124,20 @@ fn print_each<S: WordSource, O: ByteOut, E: Engine, F: Flushing<S>>(
     out: &mut O,
     settings: &Settings,
     engine: &E,
+    at: &mut StreamBreak,
     flushing: &F,
 ) -> Result<Outcome, RunFault>
-    ensures ok { let s = settings.now in ReachesEnd S.WordSource O.ByteOut (E.reports engine.now)
-        (limit_of s.size) s.messages source.old source.new out.old out.new result }
-    ensures err { let s = settings.now in StopsEarly S.WordSource O.ByteOut (E.reports engine.now)
-        (limit_of s.size) s.messages source.old source.new out.old out.new
-        (E.allocates engine.now) result }
+    ensures ok { let s = settings.now in ReachesEnd S.WordSource O.ByteOut (E.counts engine.now)
+        (E.reports engine.now) (limit_of s.size) s.messages
+        source.old source.new out.old out.new result }
+    ensures err { let s = settings.now in StopsEarly S.WordSource O.ByteOut (E.counts engine.now)
+        (E.reports engine.now) (limit_of s.size) s.messages
+        source.old source.new out.old out.new (E.allocates engine.now) result }
     ensures memory { (n : ℕ) →
         result ≡ Err (record { message = n; cause = Cause.Frame FrameFault.Memory }) →
         E.takes_memory ≡ true }
+    ensures broken { E.notes ≡ true → let s = settings.now in IfErr result (λ fault.
+        BreaksAfter S.WordSource at.old.packed (limit_of s.size) source.old fault at.new) }
 {
     let mut outcome = Outcome {
         messages: 0,
@@ -139,12 +146,16 @@ fn print_each<S: WordSource, O: ByteOut, E: Engine, F: Flushing<S>>(
     };
     let mut buffers = engine.buffers();
     let mut ahead = [0; AHEAD];
+    let mut before = 0;
     for number in 0..settings.messages {
-        match engine.print_next(&mut buffers, source, out, settings.size, number) {
-            Ok(Some(counted)) => {
+        match engine.print_next(&mut buffers, source, out, settings.size, before, number, at) {
+            Ok(Some((counted, words))) => {
                 let waits = flushing.before_message(source, settings.size, &mut ahead);
                 match flush_output(out, waits) {
-                    Ok(()) => outcome = count(outcome, counted),
+                    Ok(()) => {
+                        outcome = count(outcome, counted);
+                        before += words;
+                    }
                     Err(fault) => return Err(output_fault_at(number, fault)),
                 }
             }
@@ -155,7 +166,7 @@ fn print_each<S: WordSource, O: ByteOut, E: Engine, F: Flushing<S>>(
             }),
         }
     }
-    match end_stream(source, settings.size) {
+    match end_stream(source, settings.size, at) {
         Ok(()) => Ok(outcome),
         Err(cause) => Err(RunFault {
             message: settings.messages,
@@ -165,20 +176,24 @@ fn print_each<S: WordSource, O: ByteOut, E: Engine, F: Flushing<S>>(
 }
 
 /// Reads the messages of a stream to its end, and writes the text of each before it reads the next.
-/// It flushes the text as `flushing` says.
+/// It flushes the text as `flushing` says. `at` says whether the input is packed. If a message can't
+/// be read, it is then what is known of that message.
 pub(crate) fn print_all<S: WordSource, O: ByteOut, E: Engine, F: Flushing<S>>(
     source: &mut S,
     out: &mut O,
     settings: &Settings,
     engine: &E,
+    at: &mut StreamBreak,
     flushing: &F,
 ) -> Result<Outcome, RunFault>
-    ensures reported { let s = settings.now in ReportsStream S.WordSource O.ByteOut
-        (E.reports engine.now) (E.allocates engine.now) (limit_of s.size) s.messages
-        source.old source.new out.old out.new result }
+    ensures reported { let s = settings.now in ReportsAll S.WordSource O.ByteOut
+        (E.counts engine.now) (E.reports engine.now) (E.allocates engine.now)
+        (limit_of s.size) s.messages source.old source.new out.old out.new result }
     ensures memory { (n : ℕ) →
         result ≡ Err (record { message = n; cause = Cause.Frame FrameFault.Memory }) →
         E.takes_memory ≡ true }
+    ensures broken { E.notes ≡ true → let s = settings.now in IfErr result (λ fault.
+        BreaksAfter S.WordSource at.old.packed (limit_of s.size) source.old fault at.new) }
 {
-    print_each(source, out, settings, engine, flushing)
+    print_each(source, out, settings, engine, at, flushing)
 }

@@ -1,19 +1,20 @@
 //! The engine that writes for each message whether it is accepted.
 
-ghost use Rattle.cap_run.specs.Demanding.{ReportsVerdictUnder, no_demands};
+ghost use Rattle.cap_frame.specs.Limit.{limit_of};
+ghost use Rattle.cap_run.specs.Demanding.{ReportsVerdictUnder};
 ghost use Rattle.cap_run.specs.Engines.{ReportsStream};
 ghost use Rattle.cap_run.specs.Reporting.{AllocatesNone};
 ghost use Rattle.cap_run.specs.Vetting.{ReportsAccepted};
-ghost use Rattle.cap_frame.specs.Limit.{limit_of};
-ghost use Rattle.cap_vet.specs.Limits.{depth_of, words_of};
+ghost use Rattle.cap_walk.specs.Demands.{no_demands};
+ghost use Rattle.cap_walk.specs.Limits.{depth_of, words_of};
 
 use crate::engines::stream::Counted;
-use crate::engines::whole::{Printer, after_text, vet_all};
+use crate::engines::vetting::{AcceptedPrinter, after_text, vet_all};
 use crate::settings::{Outcome, Settings};
 use crate::waiting::{FlushNever, Flushing};
 use cap_frame::Segments;
 use cap_text::{Cause, Page, RunFault, write_accepted};
-use cap_vet::{Demands, Vetted};
+use cap_vet::{Demands, Limits, Vetted};
 use cap_words::{ByteOut, WordSource};
 use std::alloc::Global;
 
@@ -21,19 +22,21 @@ use std::alloc::Global;
 #[derive(Clone, Copy)]
 pub(crate) struct VetPrinter;
 
-impl Printer for VetPrinter {
-    ghost reports = { λ _. ReportsAccepted };
+impl AcceptedPrinter for VetPrinter {
+    ghost reports = { λ _ _ _. ReportsAccepted };
 
     ghost allocates = { λ _ _ _. AllocatesNone };
 
     // A call would load the report from words that were just stored at other boundaries, and wait.
     #[inline(always)]
-    fn print<M: Segments, O: ByteOut>(
+    fn print_accepted<M: Segments, O: ByteOut>(
         &self,
         page: &mut Page,
         out: &mut O,
+        _before: u64,
         number: u32,
         vetted: &Vetted<'_, M>,
+        _limits: Limits,
     ) -> Result<Counted, Cause> {
         let written = write_accepted(page, out, number, &vetted.report());
         after_text(written, Counted::Accepted)

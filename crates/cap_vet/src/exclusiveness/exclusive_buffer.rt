@@ -1,15 +1,16 @@
 //! An accepted message as one of which no word is used twice, with the caller's buffer for the marks.
 
-ghost use Rattle.cap_spec.specs.Occupying.{IsDisjoint};
+ghost use Rattle.cap_frame.specs.SegmentStarts.{start_of};
 ghost use Rattle.cap_spec.specs.GreatestLimits.{most_depth, most_words};
+ghost use Rattle.cap_spec.specs.Occupying.{IsDisjoint};
 ghost use Rattle.cap_spec.specs.declared.Refusal.{Refusal};
 ghost use Rattle.cap_vet.specs.Exclusives.{IsExclusiveFault, KeepsUnused, vetted_of};
 ghost use Rattle.cap_vet.specs.Overlapping.{EndsMarking};
-ghost use Rattle.cap_vet.specs.Reports.{IsAccepted};
-ghost use Rattle.cap_vet.specs.Taken.{marks_of, start_of};
+ghost use Rattle.cap_vet.specs.Taken.{marks_of};
 ghost use Rattle.cap_vet.specs.Vettings.{message_of};
 ghost use Rattle.cap_vet.specs.declared.exclusiveness.exclusive_buffer.ExclusiveFault.{ExclusiveFault};
-ghost use Rattle.cap_vet.specs.declared.walk.vetting.Report.{Report};
+ghost use Rattle.cap_walk.specs.Reports.{IsAccepted};
+ghost use Rattle.cap_walk.specs.declared.report.Report.{Report};
 ghost use Rattle.std.specs.Prelude.{Err, ◌*◌, ◌≡◌, ◌≤◌, IfErr, IfOk, IsErrOf, IsOk, drop, length};
 
 use crate::exclusiveness::exclusive::Exclusive;
@@ -17,9 +18,9 @@ use crate::exclusiveness::exclusive_vetting::first_overlap;
 use crate::exclusiveness::marks::numbers_for;
 use crate::exclusiveness::overlap_turn::Overlap;
 use crate::nodes::vetted::Vetted;
-use crate::walk::vetting::Report;
 use cap_frame::Segments;
 use cap_spec::Refusal;
+use cap_walk::Report;
 
 /// Why a message isn't found exclusive with the caller's buffer.
 #[derive(Clone, Copy, Debug, PartialEq, Eq, Drop)]

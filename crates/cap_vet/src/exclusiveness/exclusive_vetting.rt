@@ -1,37 +1,35 @@
 //! The verdict of a message of which no word may be used twice.
 
+ghost use Rattle.cap_frame.specs.SegmentStarts.{start_of};
 ghost use Rattle.cap_spec.specs.Frames.{sizes_of};
 ghost use Rattle.cap_spec.specs.GreatestLimits.{most_depth, most_words};
 ghost use Rattle.cap_spec.specs.Messages.{segment_of};
 ghost use Rattle.cap_spec.specs.Occupying.{IsDisjoint, IsFirstOverlap, empty_count};
 ghost use Rattle.cap_spec.specs.Tree.{Tree};
 ghost use Rattle.cap_spec.specs.declared.StrictRefusal.{StrictRefusal};
-ghost use Rattle.cap_vet.specs.Demands.{IsDemandFault, IsMet, Meets, words_under};
 ghost use Rattle.cap_vet.specs.Exclusives.{IsExclusiveRefusal, vetted_of};
-ghost use Rattle.cap_vet.specs.Limits.{depth_of, words_of};
 ghost use Rattle.cap_vet.specs.OverlapSteps.{KnowsFirsts};
 ghost use Rattle.cap_vet.specs.Overlapping.{EndsMarking, OverlapsFirst};
-ghost use Rattle.cap_vet.specs.Reports.{IsAccepted, IsReport};
-ghost use Rattle.cap_vet.specs.Taken.{HasCapacity, IsTaken, start_of};
-ghost use Rattle.cap_vet.specs.Turns.{IsStopped, IsWalking};
+ghost use Rattle.cap_vet.specs.Taken.{HasCapacity, IsTaken};
 ghost use Rattle.cap_vet.specs.Vettings.{message_of, report_of};
-ghost use Rattle.cap_vet.specs.declared.walk.vetting.Report.{Report};
-ghost use Rattle.std.specs.Prelude.{Err, ◌+◌, ◌*◌, ◌<◌, ◌≡◌, ◌≤◌, ◌⊎◌, [], IfErr, IfOk, IsErrOf, IsOk, length, sum, ℕ};
+ghost use Rattle.cap_walk.specs.Demands.{IsDemandFault, IsMet, Meets, words_under};
+ghost use Rattle.cap_walk.specs.Limits.{depth_of, words_of};
+ghost use Rattle.cap_walk.specs.Reports.{IsAccepted, IsReport};
+ghost use Rattle.cap_walk.specs.Turns.{HoldsOfAll, IsStopped};
+ghost use Rattle.cap_walk.specs.declared.report.Report.{Report};
+ghost use Rattle.std.specs.Prelude.{Err, ◌+◌, ◌*◌, ◌<◌, ◌≡◌, ◌≤◌, ◌⊎◌, IfErr, IfOk, IsErrOf, IsOk, length, sum, ℕ};
 
-use crate::demands::{Demands, limits_under, unamplified_words, vet_with};
+use crate::demanded_vetting::vet_with;
 use crate::exclusiveness::exclusive::Exclusive;
 use crate::exclusiveness::marks::{Marks, fill_starts, numbers_for};
 use crate::exclusiveness::overlap_turn::{Overlap, OverlapSearch};
-use crate::limits::Limits;
 use crate::nodes::vetted::Vetted;
 use crate::strictness::path_strictness::strict_fault;
 use crate::strictness::strict_turn::{LaxPointer, LaxSearch};
-use crate::walk::turn::Stopped;
-use crate::walk::vetting::Report;
-use crate::walk::walking::walk;
 use arrayvec::ArrayVec;
 use cap_frame::Segments;
 use cap_spec::StrictRefusal;
+use cap_walk::{Demands, Limits, Report, Stopped, limits_under, unamplified_words, walk};
 use std::alloc::Global;
 
 /// Why a message isn't exclusive.
@@ -266,7 +264,8 @@ fn mark_message<M: Segments>(
     requires none { (s w : ℕ) → ¬ IsTaken (M.segments message.now) bits.old s w }
     requires root { 0 < length (segment_of (M.segments message.now) 0) }
     ensures ok { let m = M.segments message.now in IfOk result (λ firsts.
-        IsWalking m limits.now [] report.new (KnowsFirsts m firsts)) }
+        IsAccepted m (words_of limits.now) (depth_of limits.now) report.new
+        × HoldsOfAll m (KnowsFirsts m firsts)) }
     ensures err { let m = M.segments message.now in
         IfErr result (IsStopped m limits.now (OverlapsFirst m)) }
 {
@@ -291,7 +290,8 @@ fn mark_segments<M: Segments>(
     requires none { (s w : ℕ) → ¬ IsTaken (M.segments message.now) bits.old s w }
     requires root { 0 < length (segment_of (M.segments message.now) 0) }
     ensures ok { let m = M.segments message.now in IfOk result (λ firsts.
-        IsWalking m limits.now [] report.new (KnowsFirsts m firsts)) }
+        IsAccepted m (words_of limits.now) (depth_of limits.now) report.new
+        × HoldsOfAll m (KnowsFirsts m firsts)) }
     ensures err { let m = M.segments message.now in
         IfErr result (IsStopped m limits.now (OverlapsFirst m)) }
 {
@@ -313,7 +313,8 @@ fn mark_all<M: Segments>(
     requires none { (s w : ℕ) → ¬ IsTaken (M.segments message.now) bits.old s w }
     requires root { 0 < length (segment_of (M.segments message.now) 0) }
     ensures ok { let m = M.segments message.now in IfOk result (λ firsts.
-        IsWalking m limits.now [] report.new (KnowsFirsts m firsts)) }
+        IsAccepted m (words_of limits.now) (depth_of limits.now) report.new
+        × HoldsOfAll m (KnowsFirsts m firsts)) }
     ensures err { let m = M.segments message.now in
         IfErr result (IsStopped m limits.now (OverlapsFirst m)) }
 {

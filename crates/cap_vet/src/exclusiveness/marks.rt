@@ -4,16 +4,15 @@ ghost use Rattle.cap_spec.specs.Denoting.{places};
 ghost use Rattle.cap_spec.specs.Following.{Lead, Leads};
 ghost use Rattle.cap_spec.specs.Messages.{HasWord, segment_of};
 ghost use Rattle.cap_spec.specs.Occupying.{pads_of};
-ghost use Rattle.cap_vet.specs.Marks.{UsesAlone, UsesPlace};
+ghost use Rattle.cap_ptr.specs.UsedPlaces.{UsesAlone, UsesPlace};
 ghost use Rattle.cap_vet.specs.MarkSteps.{HasBits, MarksPlaces, MarksUse, SetsBits};
-ghost use Rattle.cap_vet.specs.Taken.{AreStarts, marks_of, start_of};
+ghost use Rattle.cap_vet.specs.Taken.{AreStarts, marks_of};
+ghost use Rattle.cap_frame.specs.SegmentStarts.{start_of};
 ghost use Rattle.std.specs.Prelude.{◌+◌, ◌-◌, ◌*◌, ◌/◌, ◌<◌, ◌^◌, ◌≡◌, ◌≤◌, [], IfSome, List, length, ℕ};
 
-use crate::lengths::message_words;
-use crate::nodes::place::Place;
 use arrayvec::ArrayVec;
-use cap_frame::Segments;
-use cap_ptr::{Pointer, far_segment, kind, pad, two};
+use cap_frame::{Segments, message_words};
+use cap_ptr::{Place, Pointer, far_segment, kind, pad, two};
 
 /// The number of `u64`s that the marks of a message of `words` words take: one bit for each word of
 /// all segments together.

@@ -1,21 +1,21 @@
 //! The turn of a walk that marks words, and looks for the first pointer that uses one twice.
 
+ghost use Rattle.cap_ptr.specs.UsedPlaces.{UsesPlace};
 ghost use Rattle.cap_spec.specs.declared.Step.{Step};
-ghost use Rattle.cap_vet.specs.Marks.{UsesPlace};
 ghost use Rattle.cap_vet.specs.NullMarks.{null_known_marks};
 ghost use Rattle.cap_vet.specs.OverlapSteps.{KnowsMarks};
 ghost use Rattle.cap_vet.specs.Overlapping.{OverlapsFirst};
 ghost use Rattle.cap_vet.specs.StrictNulls.{null_known};
 ghost use Rattle.cap_vet.specs.Stricts.{KnowsLax};
-ghost use Rattle.cap_vet.specs.Trails.{Ahead};
-ghost use Rattle.cap_vet.specs.Walking.{IsLookedAt};
+ghost use Rattle.cap_walk.specs.Trails.{Ahead};
+ghost use Rattle.cap_walk.specs.Walking.{IsLookedAt};
 ghost use Rattle.std.specs.Prelude.{◌∷◌, ◌≡◌, List, ℕ};
 
 use crate::exclusiveness::marks::Marks;
-use crate::nodes::place::Place;
 use crate::strictness::strict_turn::LaxSearch;
-use crate::walk::turn::Turn;
 use cap_frame::Segments;
+use cap_ptr::Place;
+use cap_walk::Turn;
 
 /// The first pointer in preorder that uses a word which is used already.
 #[derive(Clone, Copy, Drop)]

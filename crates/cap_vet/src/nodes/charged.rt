@@ -10,7 +10,7 @@ ghost use Rattle.cap_vet.specs.Budgets.{left_of};
 ghost use Rattle.cap_vet.specs.Charging.{Arrives};
 ghost use Rattle.cap_vet.specs.Finding.{element_of};
 ghost use Rattle.cap_vet.specs.Views.{kept_place, view_kind, view_message};
-ghost use Rattle.cap_vet.specs.Ways.{SomeArrives};
+ghost use Rattle.cap_vet.specs.PathEnds.{SomeArrives};
 ghost use Rattle.std.specs.Prelude.{[], ◌∷◌, ◌++◌, ◌+◌, ◌-◌, ◌<◌, ◌≡◌, ◌≤◌, ◌^◌, IfErr, IfNone, IfOk, IfSome, IsOk, List, OnErr, OnOk, length, ℕ};
 
 use crate::nodes::budget::Budget;
@@ -19,10 +19,10 @@ use crate::nodes::spot::Spot;
 use crate::nodes::view::View;
 use crate::strictness::path_strictness::first_lax;
 use crate::strictness::strict_turn::LaxPointer;
-use crate::walk::looking::follow_within;
-use crate::walk::pointer_run::levels_of_elements;
 use cap_frame::Segments;
+use cap_ptr::levels_of_elements;
 use cap_spec::{Reason, Refusal, Step};
+use cap_walk::follow_within;
 
 /// Where the steps of a path have arrived so far.
 #[derive(Clone, Copy)]

@@ -8,10 +8,9 @@ ghost use Rattle.cap_spec.specs.declared.Reason.{Reason};
 ghost use Rattle.cap_vet.specs.Finding.{IsFound, IsAtSomePlace, StepLeads, element_of, kind_of_shape};
 ghost use Rattle.std.specs.Prelude.{◌<◌, ◌≡◌, List, length, ℕ};
 
-use crate::nodes::place::Place;
 use crate::nodes::spot::Spot;
 use cap_frame::Segments;
-use cap_ptr::{Followed, Shape, Target, follow, near_target};
+use cap_ptr::{Followed, Place, Shape, Target, follow, near_target};
 use cap_spec::{Kind, Step};
 
 /// What is at a spot: its kind and its words. Null and a capability have no words, at 0:0.

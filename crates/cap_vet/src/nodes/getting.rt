@@ -6,24 +6,23 @@ ghost use Rattle.cap_spec.specs.declared.Kind.{Kind};
 ghost use Rattle.cap_spec.specs.declared.Step.{Step};
 ghost use Rattle.cap_spec.specs.declared.StrictRefusal.{StrictRefusal};
 ghost use Rattle.cap_vet.specs.Charging.{Arrives};
-ghost use Rattle.cap_vet.specs.Demands.{words_under};
-ghost use Rattle.cap_vet.specs.Views.{kept_place, view_kind, view_message};
-ghost use Rattle.cap_vet.specs.Limits.{depth_of, words_of};
 ghost use Rattle.cap_vet.specs.PathDemands.{IsPathFault, MeetsOnPath};
-ghost use Rattle.cap_vet.specs.PathWays.{IsGiven};
-ghost use Rattle.cap_vet.specs.Ways.{HasFound, IsSomeWay, IsWay, SomeArrives};
+ghost use Rattle.cap_vet.specs.GivenPaths.{IsGiven};
+ghost use Rattle.cap_vet.specs.Views.{kept_place, view_kind, view_message};
+ghost use Rattle.cap_vet.specs.PathEnds.{HasFound, IsSomePathEnd, IsPathEnd, SomeArrives};
+ghost use Rattle.cap_walk.specs.Demands.{words_under};
+ghost use Rattle.cap_walk.specs.Limits.{depth_of, words_of};
 ghost use Rattle.std.specs.Prelude.{◌++◌, ◌≡◌, Err, IfErr, IfNone, IfOk, IfSome, IsOk, List, ℕ};
 
-use crate::demands::{Demands, limits_under};
-use crate::limits::Limits;
 use crate::nodes::charged::{Arrival, at_root};
 use crate::nodes::near_arrival::at_root_near;
+use crate::nodes::path_end::PathEnd;
 use crate::nodes::step_source::StepSource;
 use crate::nodes::view::View;
-use crate::nodes::way::Way;
 use crate::strictness::path_strictness::strict_fault;
 use cap_frame::Segments;
 use cap_spec::StrictRefusal;
+use cap_walk::{Demands, Limits, limits_under};
 
 /// Follows a path in a message that needn't be vetted, under demands, and gives what it arrives at
 /// (encoding: Security Considerations). The limits and demands are those of [`crate::vet_with`], and
@@ -89,38 +88,38 @@ fn given_within<'m, M: Segments, S: StepSource + Copy>(
     ensures message { IfOk result (λ o. IfSome o (λ v. view_message v ≡ message.now)) }
 {
     match follow_near(message, words, depth, path) {
-        Some(at) => given(message, demands, Way::To(at)),
+        Some(at) => given(message, demands, PathEnd::To(at)),
         None => given(message, demands, follow_any(message, words, depth, path)),
     }
 }
 
-/// What is given under demands where a path leads this way.
+/// What is given under demands for a path with this end.
 #[inline(always)]
 pub(crate) fn given<'m, M: Segments>(
     message: &'m M,
     demands: Demands,
-    way: Way,
+    end: PathEnd,
 ) -> Result<Option<View<'m, M>>, StrictRefusal>
-    requires found { HasFound (M.segments message.now) way }
+    requires found { HasFound (M.segments message.now) end }
     ensures given { let m = M.segments message.now in
         (words depth : ℕ) (path : List Step) →
-        IsWay m (words_under demands m words) depth path way →
+        IsPathEnd m (words_under demands m words) depth path end →
         IsGiven demands m words depth path result }
     ensures message { IfOk result (λ o. IfSome o (λ v. view_message v ≡ message.now)) }
 {
-    match way {
-        Way::To(at) => match strict_fault(message, demands, at.lax) {
+    match end {
+        PathEnd::To(at) => match strict_fault(message, demands, at.lax) {
             Some(fault) => Err(fault),
             None => Ok(Some(View {
                 message,
                 found: at.found,
             })),
         },
-        Way::Early(at) => match strict_fault(message, demands, at.lax) {
+        PathEnd::Early(at) => match strict_fault(message, demands, at.lax) {
             Some(fault) => Err(fault),
             None => Ok(None),
         },
-        Way::Refused(refusal) => Err(StrictRefusal::Refused(refusal)),
+        PathEnd::Refused(refusal) => Err(StrictRefusal::Refused(refusal)),
     }
 }
 
@@ -131,14 +130,14 @@ pub(crate) fn follow_path<M: Segments, S: StepSource + Copy>(
     words: u64,
     depth: u32,
     path: S,
-) -> Way
-    ensures way { (steps : List Step) → S.gives path steps →
-        IsWay (M.segments message.now) words depth steps result }
-    ensures leads { IsSomeWay (M.segments message.now) words depth result }
+) -> PathEnd
+    ensures end { (steps : List Step) → S.gives path steps →
+        IsPathEnd (M.segments message.now) words depth steps result }
+    ensures leads { IsSomePathEnd (M.segments message.now) words depth result }
 {
     // Such looks alone follow most paths, and they need no memory.
     match follow_near(message, words, depth, path) {
-        Some(at) => Way::To(at),
+        Some(at) => PathEnd::To(at),
         None => follow_any(message, words, depth, path),
     }
 }
@@ -151,8 +150,8 @@ fn follow_near<M: Segments, S: StepSource + Copy>(
     depth: u32,
     path: S,
 ) -> Option<Arrival>
-    ensures way { (steps : List Step) → S.gives path steps →
-        IfSome result (λ at. IsWay (M.segments message.now) words depth steps (Way.To at)) }
+    ensures end { (steps : List Step) → S.gives path steps →
+        IfSome result (λ at. IsPathEnd (M.segments message.now) words depth steps (PathEnd.To at)) }
     ensures leads { IfSome result (SomeArrives (M.segments message.now) words depth) }
 {
     let mut at = at_root_near(message, words, depth)?;
@@ -173,14 +172,14 @@ fn follow_any<M: Segments, S: StepSource + Copy>(
     words: u64,
     depth: u32,
     path: S,
-) -> Way
-    ensures way { (steps : List Step) → S.gives path steps →
-        IsWay (M.segments message.now) words depth steps result }
-    ensures leads { IsSomeWay (M.segments message.now) words depth result }
+) -> PathEnd
+    ensures end { (steps : List Step) → S.gives path steps →
+        IsPathEnd (M.segments message.now) words depth steps result }
+    ensures leads { IsSomePathEnd (M.segments message.now) words depth result }
 {
     match at_root(message, words, depth) {
         Ok(root) => along(message, words, depth, root, path),
-        Err(refusal) => Way::Refused(refusal),
+        Err(refusal) => PathEnd::Refused(refusal),
     }
 }
 
@@ -192,21 +191,21 @@ pub(crate) fn along<M: Segments, S: StepSource + Copy>(
     depth: u32,
     from: Arrival,
     rest: S,
-) -> Way
+) -> PathEnd
     requires arrived { SomeArrives (M.segments message.now) words depth from }
-    ensures way { let m = M.segments message.now in
+    ensures end { let m = M.segments message.now in
         (first steps : List Step) (a : Where) → Arrives m words depth first a from →
-        S.gives rest steps → IsWay m words depth (first ++ steps) result }
-    ensures leads { IsSomeWay (M.segments message.now) words depth result }
+        S.gives rest steps → IsPathEnd m words depth (first ++ steps) result }
+    ensures leads { IsSomePathEnd (M.segments message.now) words depth result }
 {
     let mut left = rest;
     let mut at = from;
     while let Some(step) = left.next_step() {
         match at.step(message, words, depth, step) {
             Ok(Some(next)) => at = next,
-            Ok(None) => return Way::Early(at),
-            Err(refusal) => return Way::Refused(refusal),
+            Ok(None) => return PathEnd::Early(at),
+            Err(refusal) => return PathEnd::Refused(refusal),
         }
     }
-    Way::To(at)
+    PathEnd::To(at)
 }

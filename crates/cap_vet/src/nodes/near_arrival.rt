@@ -3,7 +3,7 @@
 ghost use Rattle.cap_spec.specs.Paths.{Spot as Where, word};
 ghost use Rattle.cap_spec.specs.declared.Step.{Step};
 ghost use Rattle.cap_vet.specs.Charging.{Arrives};
-ghost use Rattle.cap_vet.specs.Ways.{SomeArrives};
+ghost use Rattle.cap_vet.specs.PathEnds.{SomeArrives};
 ghost use Rattle.std.specs.Prelude.{[], ◌∷◌, ◌++◌, ◌<◌, ◌≡◌, ◌^◌, IfSome, List, None};
 
 use crate::nodes::charged::Arrival;

@@ -2,16 +2,13 @@
 
 ghost use Rattle.cap_ptr.specs.Shapes.{FindsTarget};
 ghost use Rattle.cap_spec.specs.Messages.{segment_of};
-ghost use Rattle.cap_vet.specs.Levels.{levels_of};
+ghost use Rattle.cap_ptr.specs.Levels.{levels_of};
 ghost use Rattle.cap_vet.specs.NearFinding.{FindsNear, IsNearWithin};
 ghost use Rattle.std.specs.Prelude.{◌+◌, ◌<◌, ◌^◌, ◌≡◌, ◌≤◌, IfSome, IsSome, List, length, ℕ};
 
 use crate::nodes::found::{Found, object};
-use crate::nodes::place::Place;
-use crate::walk::looking::struct_list;
-use crate::walk::pointer_run::levels_taken;
 use cap_frame::Segments;
-use cap_ptr::{Target, near_target};
+use cap_ptr::{Place, Target, levels_taken, near_target, struct_list};
 use cap_spec::Kind;
 
 /// What word `w` of segment `s` leads to, and its charge, where `left` words may still be charged and its target

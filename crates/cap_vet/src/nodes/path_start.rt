@@ -1,20 +1,19 @@
 //! The first steps that several paths have in common.
 
 ghost use Rattle.cap_spec.specs.declared.Step.{Step};
-ghost use Rattle.cap_vet.specs.Limits.{depth_of, words_of};
-ghost use Rattle.cap_vet.specs.Ways.{IsSomeWay};
+ghost use Rattle.cap_vet.specs.PathEnds.{IsSomePathEnd};
+ghost use Rattle.cap_walk.specs.Limits.{depth_of, words_of};
 ghost use Rattle.std.specs.Prelude.{◌≡◌, ⊤, List};
 
-use crate::demands::{Demands, limits_under};
-use crate::limits::Limits;
 use crate::nodes::getting::{along, follow_path, given};
+use crate::nodes::path_end::PathEnd;
 use crate::nodes::step_source::StepSource;
 use crate::nodes::struct_elements::StructElements;
 use crate::nodes::view::View;
-use crate::nodes::way::Way;
 use crate::strictness::path_strictness::strict_fault;
 use cap_frame::Segments;
 use cap_spec::{Kind, Step, StrictRefusal};
+use cap_walk::{Demands, Limits, limits_under};
 use std::alloc::AllocError;
 
 /// The first steps of several paths in a message that needn't be vetted, and where they lead
@@ -25,8 +24,8 @@ pub struct PathStart<'m, M: Segments> {
     // The limits under the demands.
     words: u64,
     depth: u32,
-    way: Way,
-    ghost leads: { IsSomeWay (M.segments message.now) words depth way },
+    end: PathEnd,
+    ghost leads: { IsSomePathEnd (M.segments message.now) words depth end },
 }
 
 impl<'m, M: Segments> Clone for PathStart<'m, M> {
@@ -43,7 +42,7 @@ impl<'m, M: Segments> Copy for PathStart<'m, M> {}
 
 impl<'m, M: Segments> PathStart<'m, M> {
     ghost use Rattle.cap_vet.specs.Views.{view_message};
-    ghost use Rattle.cap_vet.specs.PathWays.{LeadsToElements, LeadsToStructs, GivesAfter, IsStart, elements_message, start_message};
+    ghost use Rattle.cap_vet.specs.GivenPaths.{LeadsToElements, LeadsToStructs, GivesAfter, IsStart, elements_message, start_message};
     ghost use Rattle.std.specs.Prelude.{IfOk, IfSome, IsSome};
 
     /// Follows the first steps of several paths. The limits and demands are those of
@@ -67,7 +66,7 @@ impl<'m, M: Segments> PathStart<'m, M> {
             demands,
             words,
             depth,
-            way: follow_path(message, words, depth, first),
+            end: follow_path(message, words, depth, first),
         }
     }
 
@@ -80,7 +79,7 @@ impl<'m, M: Segments> PathStart<'m, M> {
             LeadsToStructs m self.now → IsSome result }
         ensures message { IfSome result (λ e. elements_message e ≡ start_message self.now) }
     {
-        let Way::To(at) = self.way else {
+        let PathEnd::To(at) = self.end else {
             return None;
         };
         let Kind::Structs {
@@ -124,15 +123,15 @@ impl<'m, M: Segments> PathStart<'m, M> {
         ensures message { IfOk result (λ o. IfSome o (λ v.
             view_message v ≡ start_message self.now)) }
     {
-        let way = match self.way {
-            Way::To(at) => match at.step(self.message, self.words, self.depth, step) {
+        let end = match self.end {
+            PathEnd::To(at) => match at.step(self.message, self.words, self.depth, step) {
                 Ok(Some(next)) => along(self.message, self.words, self.depth, next, rest),
-                Ok(None) => Way::Early(at),
-                Err(refusal) => Way::Refused(refusal),
+                Ok(None) => PathEnd::Early(at),
+                Err(refusal) => PathEnd::Refused(refusal),
             },
-            Way::Early(at) => Way::Early(at),
-            Way::Refused(refusal) => Way::Refused(refusal),
+            PathEnd::Early(at) => PathEnd::Early(at),
+            PathEnd::Refused(refusal) => PathEnd::Refused(refusal),
         };
-        given(self.message, self.demands, way)
+        given(self.message, self.demands, end)
     }
 }

@@ -1,6 +1,6 @@
 //! Where the steps of a path come from.
 
-ghost use Rattle.cap_path.specs.PathSteps.{AreLeft, bytes_left};
+ghost use Rattle.cap_path.specs.PathSteps.{AreStepsLeft, text_bytes_left};
 ghost use Rattle.cap_spec.specs.declared.Step.{Step};
 ghost use Rattle.std.specs.Prelude.{[], ◌∷◌, ◌<◌, ◌≡◌, IfSome, List, None, Some, ℕ};
 
@@ -24,9 +24,9 @@ pub trait StepSource {
 }
 
 impl<'t> StepSource for PathSteps<'t> {
-    ghost gives = { λ path steps. AreLeft path steps };
+    ghost gives = { λ path steps. AreStepsLeft path steps };
 
-    ghost most = { λ path. bytes_left path };
+    ghost most = { λ path. text_bytes_left path };
 
     #[inline(always)]
     fn next_step(&mut self) -> Option<Step> {

@@ -3,11 +3,10 @@
 ghost use Rattle.cap_spec.specs.Messages.{segment_of};
 ghost use Rattle.std.specs.Prelude.{◌*◌, ◌+◌, ◌<◌, ◌^◌, ◌≡◌, ◌≤◌, ⊤, length};
 
-use crate::lengths::words_before;
 use crate::nodes::found::{Found, element};
 use crate::nodes::near_found::found_near;
 use crate::nodes::view::View;
-use cap_frame::Segments;
+use cap_frame::{Segments, words_before};
 use std::alloc::AllocError;
 
 /// The elements of the list of structs that the first steps of several paths lead to, in a message
@@ -45,9 +44,9 @@ impl<'m, M: Segments> Clone for StructElements<'m, M> {
 impl<'m, M: Segments> Copy for StructElements<'m, M> {}
 
 impl<'m, M: Segments> StructElements<'m, M> {
-    ghost use Rattle.cap_vet.specs.Taken.{start_of};
+    ghost use Rattle.cap_frame.specs.SegmentStarts.{start_of};
     ghost use Rattle.cap_vet.specs.Views.{kept_place, view_message};
-    ghost use Rattle.cap_vet.specs.PathWays.{GivesElement, GivesPointer, HasPointerNear, elements_count, elements_message, elements_segment};
+    ghost use Rattle.cap_vet.specs.GivenPaths.{GivesElement, GivesPointer, HasPointerNear, elements_count, elements_message, elements_segment};
     ghost use Rattle.std.specs.Prelude.{◌↔◌, IfSome, IsSome};
 
     /// How many words of the message come before the segment of the elements, where the segments

@@ -1,13 +1,13 @@
 //! A message that was accepted.
 
-ghost use Rattle.cap_vet.specs.Reports.{IsVetted};
+ghost use Rattle.cap_walk.specs.Reports.{IsVetted};
 ghost use Rattle.std.specs.Prelude.{◌≡◌, ⊤};
 
 use crate::nodes::node::Node;
 use crate::nodes::spot::Spot;
-use crate::walk::vetting::Report;
 use cap_frame::Segments;
 use cap_spec::Step;
+use cap_walk::Report;
 use std::alloc::AllocError;
 
 /// A message whose root denotes one finite tree, of the reported numbers, within the greatest limits:

@@ -5,11 +5,9 @@ ghost use Rattle.cap_spec.specs.Pointers.{element_bits};
 ghost use Rattle.cap_vet.specs.Finding.{own_words};
 ghost use Rattle.std.specs.Prelude.{◌+◌, ◌<◌, ◌≡◌, ◌≤◌, ⊤, length};
 
-use crate::lengths::words_before;
 use crate::nodes::found::Found;
-use crate::nodes::place::Place;
-use cap_frame::{ByteView, Segments};
-use cap_ptr::element_bits;
+use cap_frame::{ByteView, Segments, words_before};
+use cap_ptr::{Place, element_bits};
 use cap_spec::Kind;
 use cap_words::{bits, bytes_of};
 use std::alloc::AllocError;
@@ -43,7 +41,7 @@ impl<'m, M: Segments> View<'m, M> {
     ghost use Rattle.cap_spec.specs.Scalars.{scalar_words};
     ghost use Rattle.cap_spec.specs.Showing.{bit_of, byte_of, count_of, data_word_of, kind_of, scalar_of, words_of_own};
     ghost use Rattle.cap_vet.specs.Views.{kept_place, shown, view_kind, view_message, view_place};
-    ghost use Rattle.cap_vet.specs.Taken.{start_of};
+    ghost use Rattle.cap_frame.specs.SegmentStarts.{start_of};
     ghost use Rattle.std.specs.Prelude.{◌^◌, IfSome, slice_get};
 
     /// What it is, with its sizes.

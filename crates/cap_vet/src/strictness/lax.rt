@@ -3,7 +3,7 @@
 ghost use Rattle.cap_spec.specs.Messages.{segment_of};
 ghost use Rattle.cap_spec.specs.Paths.{Costs};
 ghost use Rattle.cap_spec.specs.Strict.{IsLaxAt};
-ghost use Rattle.cap_vet.specs.Looking.{IsNotLax};
+ghost use Rattle.cap_walk.specs.Looking.{IsNotLax};
 ghost use Rattle.std.specs.Prelude.{◌<◌, IfNone, IfSome, length, ℕ};
 
 use cap_frame::Segments;

@@ -5,11 +5,11 @@ ghost use Rattle.cap_spec.specs.Paths.{Costs};
 ghost use Rattle.cap_vet.specs.PathStrictness.{AddsPointer, HasNoFaultBy, IsFaultBy};
 ghost use Rattle.std.specs.Prelude.{◌<◌, IfNone, IfSome, length, ℕ};
 
-use crate::demands::Demands;
 use crate::strictness::lax::lax_form;
 use crate::strictness::strict_turn::LaxPointer;
 use cap_frame::Segments;
 use cap_spec::StrictRefusal;
+use cap_walk::Demands;
 
 /// The most segments that common readers take.
 const MOST_SEGMENTS: u32 = 511;

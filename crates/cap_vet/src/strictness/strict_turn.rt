@@ -3,15 +3,15 @@
 ghost use Rattle.cap_spec.specs.declared.Step.{Step};
 ghost use Rattle.cap_vet.specs.StrictNulls.{null_known};
 ghost use Rattle.cap_vet.specs.Stricts.{KnowsLax};
-ghost use Rattle.cap_vet.specs.Trails.{Ahead};
-ghost use Rattle.cap_vet.specs.Walking.{IsLookedAt};
+ghost use Rattle.cap_walk.specs.Trails.{Ahead};
+ghost use Rattle.cap_walk.specs.Walking.{IsLookedAt};
 ghost use Rattle.std.specs.Prelude.{◌∷◌, List, ℕ};
 
-use crate::nodes::place::Place;
 use crate::strictness::lax::lax_form;
-use crate::walk::turn::Turn;
 use cap_frame::Segments;
+use cap_ptr::Place;
 use cap_spec::Lax;
+use cap_walk::Turn;
 use std::convert::Infallible;
 
 /// The first pointer that common readers reject.

@@ -2,23 +2,19 @@
 
 ghost use Rattle.cap_spec.specs.Strict.{IsStrict, IsStrictFault};
 ghost use Rattle.cap_spec.specs.declared.StrictRefusal.{StrictRefusal};
-ghost use Rattle.cap_vet.specs.Limits.{depth_of, words_of};
-ghost use Rattle.cap_vet.specs.Reports.{IsAccepted};
 ghost use Rattle.cap_vet.specs.Stricts.{vetted_of};
 ghost use Rattle.cap_vet.specs.Vettings.{message_of, report_of};
+ghost use Rattle.cap_walk.specs.Limits.{depth_of, words_of};
+ghost use Rattle.cap_walk.specs.Reports.{IsAccepted};
 ghost use Rattle.std.specs.Prelude.{Err, ◌≡◌, IfErr, IfOk, IsOk};
 
-use crate::demands::Demands;
-use crate::limits::Limits;
 use crate::nodes::vetted::Vetted;
 use crate::strictness::path_strictness::strict_fault;
 use crate::strictness::strict::Strict;
 use crate::strictness::strict_turn::LaxSearch;
-use crate::walk::turn::Stopped;
-use crate::walk::vetting::Report;
-use crate::walk::walking::walk;
 use cap_frame::Segments;
 use cap_spec::StrictRefusal;
+use cap_walk::{Demands, Limits, Report, Stopped, walk};
 
 /// Vets a message, and accepts it if it is also strict (profile). Then it has at most 511 segments,
 /// and no path reaches a pointer of a form in [`crate::Lax`]. Walks once. Allocates nothing.

@@ -1,5 +1,5 @@
 //! What paths arrive at, what views show there, and what it is charged, of messages that are known
-//! from outside. `tests/nodes.py` has many more paths, from C.
+//! from outside. `tests/calls/nodes.py` has many more paths, from C.
 
 use crate::held::{in_bytes, message};
 use crate::same::{same, same_of};

@@ -1,5 +1,5 @@
 //! Whether a message uses a word twice, of messages that are known from outside. Each is in vectors, and in one
-//! buffer. `tests/tables.py` has more, by the built program.
+//! buffer. `tests/shared/tables.py` has more, by the built program.
 
 use crate::held::{in_bytes, message};
 use crate::same::same_of;

@@ -1,4 +1,5 @@
-//! Nodes and places of a message that is known from outside. `tests/messages.py` has others, by the built program.
+//! Nodes and places of a message that is known from outside. `tests/shared/messages.py` has others, by the built
+//! program.
 
 use crate::held::message;
 use crate::same::same_of;

@@ -3,7 +3,7 @@
 use crate::held::message;
 use crate::same::{same, same_of};
 use cap_frame::Segments;
-use cap_trace::path_of_pointer;
+use cap_trace::{path_of_pointer, return_level};
 use cap_vet::{Limits, Step, StrictRefusal, vet_strict};
 use std::process::Abort;
 use std::test::Fail;
@@ -105,5 +105,34 @@ fn a_path_that_does_not_fit(rt: HostRuntime) -> Result<(), Fail> {
     let count = path_of_pointer(&cycle, limits, number, &mut steps);
     same(&rt, count, Some(256));
     assert!(&rt; steps.iter().all(|step| *step == Step::Item(9)));
+    Ok(())
+}
+
+// The words of each segment of a message, and the level from which the path to the refused pointer
+// comes back to its own word.
+type Return = (&'static [&'static [u64]], Option<u32>);
+
+static RETURNS: [Return; 3] = [
+    // A struct whose pointer leads to the struct again. The level past the limit is 11.
+    (&[&[0x0000000000000100, 0xfcffffff00000100]], Some(10)),
+    // A struct and one below it, which leads to the first.
+    (
+        &[&[0x0000000000000100, 0x0000000000000100, 0xf8ffffff00000100]],
+        Some(9),
+    ),
+    // A struct with a pointer out of its segment.
+    (&[&[0x0000000000000100, 0x0000000001000000]], None),
+];
+
+#[test]
+fn returns_of_refusals(rt: HostRuntime) -> Result<(), Fail> {
+    let limits = Limits::new(100, 10).ok_or("no limits")?;
+    for (encoded, level) in &RETURNS {
+        let message = message(rt.alloc(), *encoded)?;
+        let number = pointers_of(&message, limits)?;
+        same(&rt, return_level(&message, limits, number), *level);
+        same(&rt, return_level(&message, limits, 1), None);
+        same(&rt, return_level(&message, limits, 1000), None);
+    }
     Ok(())
 }

@@ -25,7 +25,7 @@ use capvet_core::cap_words::{
 use capvet_core::rattle::alloc::Global;
 
 /// The most words that are packed or unpacked.
-const MOST_WORDS: u64 = 1099511627776;
+const MOST_TRANSCODED: u64 = 1099511627776;
 
 /// The exit status if a device or memory failed.
 const FAILED: u8 = 3;
@@ -410,7 +410,7 @@ impl Course {
         err: &mut E,
     ) -> (u8, O) {
         let mut sink = Packer::new(out);
-        let answer = run_pack_with(source, &mut sink, MOST_WORDS, &self.flushing);
+        let answer = run_pack_with(source, &mut sink, MOST_TRANSCODED, &self.flushing);
         (report_transcode(err, &answer), sink.into_inner())
     }
 
@@ -422,7 +422,7 @@ impl Course {
         err: &mut E,
     ) -> (u8, O) {
         let mut sink = PlainSink::new(out);
-        let answer = run_unpack_with(source, &mut sink, MOST_WORDS, &self.flushing);
+        let answer = run_unpack_with(source, &mut sink, MOST_TRANSCODED, &self.flushing);
         (report_transcode(err, &answer), sink.into_inner())
     }
 }

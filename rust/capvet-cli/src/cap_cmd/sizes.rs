@@ -1,16 +1,11 @@
 // crates/cap_cmd/src/sizes.rt without its contracts, by tools/erase: that text is proved, this one is only tested.
 //! Sizes with units, as options take them.
 
-// Whether a byte is a decimal digit.
-fn is_digit(byte: u8) -> bool {
-    byte > 47 && byte < 58
-}
-
 // How many decimal digits a text begins with.
 fn digit_count(text: &[u8]) -> usize {
     let mut count = 0;
     while count < text.len() {
-        if !is_digit(text[count]) {
+        if !text[count].is_ascii_digit() {
             return count;
         }
         count += 1;

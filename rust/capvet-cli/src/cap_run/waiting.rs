@@ -2,7 +2,7 @@
 //! When an output is flushed, for all engines, and the sources that show what is buffered of their
 //! input. What can be said of the bytes that have come is said before the program waits for more: with
 //! [`FlushBeforeWaiting`] an engine flushes what it wrote, unless its source shows what is read next.
-//! `tests/live.py` shows when it flushes, and no clause says it.
+//! `tests/program/live.py` shows when it flushes, and no clause says it.
 
 use capvet_core::cap_frame::{front_of, FrontFault, SizeLimit};
 use capvet_core::cap_pack::Unpacker;

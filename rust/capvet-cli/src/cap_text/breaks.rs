@@ -2,9 +2,10 @@
 //! The lines that explain why a stream breaks off.
 
 use crate::cap_text::fault::{Cause, ExplainedFault, StreamBreak};
-use crate::cap_text::faults::{fault_text, TEXT};
+use crate::cap_text::fault_lines::{fault_text, TEXT};
 use crate::cap_text::guess::{break_guess, push_guess_line, GUESS};
-use crate::cap_text::page::{write_bytes, Page, CAPACITY, DIGITS};
+use crate::cap_text::page::{write_bytes, Page, CAPACITY};
+use capvet_core::cap_buffer::DIGITS;
 use capvet_core::cap_frame::{FrameFault, TableSums};
 use capvet_core::cap_words::{ByteOut, OutFault};
 

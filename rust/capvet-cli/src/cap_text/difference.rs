@@ -3,7 +3,7 @@
 
 use crate::cap_text::explained::{push_refusal, REFUSAL, SENTENCE};
 use crate::cap_text::json::{push_numbers, start_object, NUMBERS, START};
-use crate::cap_text::page::{write_bytes, Page, CAPACITY};
+use crate::cap_text::page::{begin_message, message_line, write_bytes, Page, CAPACITY};
 use crate::cap_text::verdict::{push_place, refused_for, Refused, NAME};
 use capvet_core::cap_difference::{Difference, DifferenceReason};
 use capvet_core::cap_spec::{Step, StrictRefusal};
@@ -32,7 +32,7 @@ fn difference_name(reason: DifferenceReason) -> &'static [u8] {
 
 /// Begins the page with the line of a message with this first difference.
 fn not_canonical_line(page: &mut Page, number: u32, difference: &Difference) {
-    page.begin_message(number);
+    begin_message(page, number);
     page.push_text(b"not canonical: ");
     page.push_text(difference_name(difference.reason));
     push_place(page, difference.segment, difference.word);
@@ -44,7 +44,7 @@ fn not_canonical_line(page: &mut Page, number: u32, difference: &Difference) {
 fn difference_line(page: &mut Page, number: u32, difference: &Option<Difference>) {
     match difference {
         Some(difference) => not_canonical_line(page, number, difference),
-        None => page.message_line(number, b"canonical"),
+        None => message_line(page, number, b"canonical"),
     }
 }
 

@@ -1,18 +1,13 @@
 // crates/cap_text/src/explained.rt without its contracts, by tools/erase: that text is proved, this one is only tested.
 //! The JSON objects that explain why a message is refused, one a line (RFC 8259).
 
-use crate::cap_text::json::{push_numbers, push_place_members, start_object, MEMBER};
-use crate::cap_text::page::{write_bytes, Page, CAPACITY, DIGITS};
+use crate::cap_text::json::{push_member, push_numbers, push_place_members, start_object, MEMBER};
+use crate::cap_text::page::{write_bytes, Page, CAPACITY};
 use crate::cap_text::verdict::{refused_for, Refused, NAME};
+use capvet_core::cap_buffer::{DIGITS, STEP, STEPS};
 use capvet_core::cap_spec::{Step, StrictRefusal};
 use capvet_core::cap_vet::Report;
 use capvet_core::cap_words::{ByteOut, OutFault};
-
-/// The most steps of a path that an object has.
-const STEPS: usize = 257;
-
-/// The space for the text of one step.
-const STEP: usize = 12;
 
 /// The space for a path, with its member.
 const PATH: usize = 11 + STEP * STEPS;
@@ -23,39 +18,10 @@ pub(crate) const SENTENCE: usize = 120;
 /// The space for the members of a refusal.
 pub(crate) const REFUSAL: usize = NAME + 3 * MEMBER + PATH + SENTENCE + 40;
 
-/// Appends the name of a step's kind and its number.
-fn push_index(page: &mut Page, name: &[u8], number: u64) {
-    page.push_named(name, number);
-}
-
-/// Appends the text of a step.
-fn push_step(page: &mut Page, step: Step) {
-    match step {
-        Step::Ptr(index) => push_index(page, b"/p", u64::from(index)),
-        Step::Item(index) => push_index(page, b"/i", u64::from(index)),
-    }
-}
-
-/// Appends the texts of steps.
-fn push_steps(page: &mut Page, steps: &[Step]) {
-    for step in steps {
-        push_step(page, *step);
-    }
-}
-
-/// Appends the text of a path.
-fn push_path(page: &mut Page, steps: &[Step]) {
-    if steps.is_empty() {
-        page.push_text(b"/");
-    } else {
-        push_steps(page, steps);
-    }
-}
-
 /// Appends the member of a path.
 fn push_steps_member(page: &mut Page, steps: &[Step]) {
     page.push_text(b",\"path\":\"");
-    push_path(page, steps);
+    page.push_path(steps);
     page.push_text(b"\"");
 }
 
@@ -90,6 +56,13 @@ pub(crate) fn push_refusal(page: &mut Page, why: Refused, path: Option<&[Step]>,
     push_sentence(page, sentence);
 }
 
+/// Appends the member of the level of a cycle, if there is one.
+fn push_cycle_member(page: &mut Page, cycle: Option<u32>) {
+    if let Some(level) = cycle {
+        push_member(page, b"cycle_level", u64::from(level));
+    }
+}
+
 /// Begins the page with the object of a message that is refused.
 fn refused_object(
     page: &mut Page,
@@ -97,10 +70,12 @@ fn refused_object(
     why: Refused,
     path: Option<&[Step]>,
     sentence: &[u8],
+    cycle: Option<u32>,
 ) {
     start_object(page, number, b"refused");
     page.push_text(b",");
     push_refusal(page, why, path, sentence);
+    push_cycle_member(page, cycle);
     page.push_text(b"}\n");
 }
 
@@ -123,9 +98,9 @@ fn filtered_object(
 }
 
 /// Writes the JSON object of message `number`, which is refused: the reason, the place of the
-/// pointer, the path to it, and the reason as a sentence (docs/output.md, JSON). A path of more than
-/// 257 steps has no member: no path to a pointer of a refusal has as many. What the page held before
-/// isn't written.
+/// pointer, the path to it, the reason as a sentence, and the level of a cycle, if there is one
+/// (docs/output.md, JSON). A path of more than 257 steps has no member: no path to a pointer of a
+/// refusal has as many. What the page held before isn't written.
 ///
 /// # Errors
 ///
@@ -137,8 +112,9 @@ pub fn write_explained_json<O: ByteOut>(
     refusal: &StrictRefusal,
     path: Option<&[Step]>,
     sentence: &[u8],
+    cycle: Option<u32>,
 ) -> Result<(), OutFault> {
-    refused_object(page, number, refused_for(refusal), path, sentence);
+    refused_object(page, number, refused_for(refusal), path, sentence, cycle);
     write_bytes(out, page.text())
 }
 
@@ -164,7 +140,7 @@ pub fn write_explained_overlap_json<O: ByteOut>(
         word,
         pointers,
     };
-    refused_object(page, number, overlap, path, sentence);
+    refused_object(page, number, overlap, path, sentence, None);
     write_bytes(out, page.text())
 }
 

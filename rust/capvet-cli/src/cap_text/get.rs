@@ -1,8 +1,8 @@
 // crates/cap_text/src/get.rt without its contracts, by tools/erase: that text is proved, this one is only tested.
 //! The text for the node at a path.
 
-use crate::cap_text::node::put_named;
-use crate::cap_text::page::{write_bytes, write_page, Page};
+use crate::cap_text::node::put_node;
+use crate::cap_text::page::{message_line, write_bytes, write_page, Page};
 use capvet_core::cap_frame::Segments;
 use capvet_core::cap_vet::Node;
 use capvet_core::cap_words::{ByteOut, OutFault};
@@ -22,11 +22,11 @@ pub fn write_node<M: Segments, O: ByteOut>(
     let node = if let Some(node) = node {
         node
     } else {
-        page.message_line(number, b"none");
+        message_line(page, number, b"none");
         return write_bytes(out, page.text());
     };
-    page.message_line(number, b"found");
-    match put_named(page, out, b"node", &node) {
+    message_line(page, number, b"found");
+    match put_node(page, out, b"node", &node) {
         Ok(()) => write_page(page, out),
         Err(fault) => Err(fault),
     }

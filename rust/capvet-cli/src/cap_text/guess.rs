@@ -2,7 +2,7 @@
 //! What an input may be that is no framed stream.
 
 use crate::cap_text::fault::{Cause, RunFault, StreamBreak};
-use crate::cap_text::faults::fault_text;
+use crate::cap_text::fault_lines::fault_text;
 use crate::cap_text::page::{write_bytes, Page, CAPACITY};
 use capvet_core::cap_frame::FrameFault;
 use capvet_core::cap_words::{bits, ByteOut, OutFault};
@@ -59,7 +59,7 @@ fn is_text(first: u64) -> bool {
 }
 
 /// Bytes begin as a packed segment table.
-fn is_packed(first: u64) -> bool {
+fn looks_packed(first: u64) -> bool {
     (bits(first, 1, 3) == 0 && bits(first, 7, 1) == 0)
         && (bits(first, 4, 3) > 0 && bits(first, 8, 8) > 0)
 }
@@ -72,7 +72,7 @@ fn plain_guess(first: u64) -> Option<Guess> {
         Some(Guess::Tls)
     } else if is_text(first) {
         Some(Guess::Text)
-    } else if is_packed(first) {
+    } else if looks_packed(first) {
         Some(Guess::Packed)
     } else {
         None

@@ -1,13 +1,14 @@
 // crates/cap_text/src/hash.rt without its contracts, by tools/erase: that text is proved, this one is only tested.
 //! The lines of a hash.
 
-use crate::cap_text::page::{write_bytes, Page, HASH};
+use crate::cap_text::page::{begin_message, write_bytes, Page};
 use crate::cap_text::verdict::push_place;
+use capvet_core::cap_buffer::HASH;
 use capvet_core::cap_words::{ByteOut, OutFault};
 
 /// Begins the page with the line of an accepted message: the hash of its canonical words.
 fn hash_line(page: &mut Page, number: u32, hash: &[u8; HASH]) {
-    page.begin_message(number);
+    begin_message(page, number);
     page.push_text(b"sha256 ");
     page.push_hash(hash);
     page.push_text(b"\n");
@@ -22,7 +23,7 @@ fn digest_line(page: &mut Page, hash: &[u8; HASH]) {
 
 /// Begins the page with the line of an accepted message that has no canonical form.
 fn no_form_line(page: &mut Page, number: u32, segment: u32, word: u32) {
-    page.begin_message(number);
+    begin_message(page, number);
     page.push_text(b"no canonical form, capability");
     push_place(page, segment, word);
     page.push_text(b"\n");

@@ -1,8 +1,9 @@
 // crates/cap_text/src/json.rt without its contracts, by tools/erase: that text is proved, this one is only tested.
 //! The JSON objects of messages, one a line (RFC 8259).
 
-use crate::cap_text::page::{write_bytes, Page, CAPACITY, HASH};
+use crate::cap_text::page::{write_bytes, Page, CAPACITY};
 use crate::cap_text::verdict::{refused_for, NAME};
+use capvet_core::cap_buffer::HASH;
 use capvet_core::cap_spec::StrictRefusal;
 use capvet_core::cap_vet::Report;
 use capvet_core::cap_words::{ByteOut, OutFault};

@@ -140,7 +140,7 @@ fn put_own<M: Segments, O: ByteOut>(
 // It is inlined, and so is what it calls: a stream may have millions of messages with a few lines
 // each.
 #[inline(always)]
-pub(crate) fn put_named<M: Segments, O: ByteOut>(
+pub(crate) fn put_node<M: Segments, O: ByteOut>(
     page: &mut Page,
     out: &mut O,
     name: &[u8],

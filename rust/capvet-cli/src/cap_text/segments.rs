@@ -1,13 +1,13 @@
 // crates/cap_text/src/segments.rt without its contracts, by tools/erase: that text is proved, this one is only tested.
 //! The text of a message's segments: their number and sizes, and the root word.
 
-use crate::cap_text::page::{make_space, write_page, Page, CAPACITY, LINE};
+use crate::cap_text::page::{begin_message, make_space, write_page, Page, CAPACITY, LINE};
 use capvet_core::cap_frame::Outline;
 use capvet_core::cap_words::{ByteOut, OutFault};
 
 /// Begins the page with the line on the message as a whole.
 fn head_line(page: &mut Page, number: u32, count: u32, words: u64) {
-    page.begin_message(number);
+    begin_message(page, number);
     page.push_named(b"segments ", u64::from(count));
     page.push_named(b" words ", words);
     page.push_text(b"\n");

@@ -1,7 +1,7 @@
 // crates/cap_text/src/tree.rt without its contracts, by tools/erase: that text is proved, this one is only tested.
 //! The text of a message's tree.
 
-use crate::cap_text::node::{put_child, put_named};
+use crate::cap_text::node::{put_child, put_node};
 use crate::cap_text::page::{write_page, Page};
 use crate::cap_text::verdict::accepted_line;
 use capvet_core::cap_frame::Segments;
@@ -88,7 +88,7 @@ fn put_dump<M: Segments, O: ByteOut>(
     // The children of an object at level n have lines at level n, and a struct of a list has a
     // level too.
     let levels = vetted.report().depth;
-    match put_named(page, out, b"root", &root) {
+    match put_node(page, out, b"root", &root) {
         Ok(()) => put_children(page, out, &root, 1, levels),
         Err(fault) => Err(fault),
     }

@@ -1,7 +1,7 @@
 // crates/cap_text/src/verdict.rt without its contracts, by tools/erase: that text is proved, this one is only tested.
 //! The line of a verdict.
 
-use crate::cap_text::page::{write_bytes, Page, CAPACITY};
+use crate::cap_text::page::{begin_message, message_line, write_bytes, Page, CAPACITY};
 use capvet_core::cap_spec::{Lax, StrictRefusal};
 use capvet_core::cap_vet::{Reason, Report};
 use capvet_core::cap_words::{ByteOut, OutFault};
@@ -21,7 +21,7 @@ pub(crate) const FAULT: usize = 70;
 
 /// Begins the page with the line of a message that is accepted, with the numbers of its tree.
 pub(crate) fn accepted_line(page: &mut Page, number: u32, report: &Report) {
-    page.begin_message(number);
+    begin_message(page, number);
     push_report(page, report);
     page.push_text(b"\n");
 }
@@ -168,7 +168,7 @@ fn filtered_line(page: &mut Page, name: &[u8], segment: u32, word: u32, pointers
 /// Begins the page with the line of a message that is refused, with the name of the reason and the
 /// place.
 fn refused_line(page: &mut Page, number: u32, name: &[u8], segment: u32, word: u32, pointers: u64) {
-    page.begin_message(number);
+    begin_message(page, number);
     push_refused(page, name, segment, word);
     page.push_named(b" pointers ", pointers);
     page.push_text(b"\n");
@@ -190,9 +190,9 @@ pub(crate) fn push_place(page: &mut Page, segment: u32, word: u32) {
 /// Begins the page with the line of an accepted message: whether it is canonical.
 fn check_line(page: &mut Page, number: u32, canonical: bool) {
     if canonical {
-        page.message_line(number, b"canonical");
+        message_line(page, number, b"canonical");
     } else {
-        page.message_line(number, b"not canonical");
+        message_line(page, number, b"not canonical");
     }
 }
 

@@ -1,7 +1,7 @@
 // crates/cap_calls/src/buffer_sizes.rt without its contracts, by tools/erase: that text is proved, this one is only tested.
 //! Sizes that suffice for the buffers of the calls, for callers without the macros of C.
 
-use crate::cap_calls::limits::MOST_WORDS;
+use crate::cap_frame::MOST_WORDS;
 
 /// The most bytes of a frame whose segments have `message_words` words. Above the maximum of the
 /// limit, it is that of the maximum.

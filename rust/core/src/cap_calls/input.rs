@@ -4,10 +4,10 @@
 use crate::cap_calls::answer::Answer;
 use crate::cap_calls::found::Found;
 use crate::cap_calls::front::NoFrame;
-use crate::cap_calls::limits::{CallLimits, MOST_WORDS};
+use crate::cap_calls::limits::CallLimits;
 use crate::cap_calls::over::{over, Call};
 use crate::cap_calls::report::CallReport;
-use crate::cap_frame::{ByteView, FrontFault, Segments};
+use crate::cap_frame::{ByteView, FrontFault, Segments, MOST_WORDS};
 use crate::cap_vet::Limits;
 
 /// What a call finds of its input: of the message that bytes start with, or by their form of the

@@ -1,10 +1,8 @@
 // crates/cap_calls/src/limits.rt without its contracts, by tools/erase: that text is proved, this one is only tested.
 //! The limits of a call.
 
+use crate::cap_frame::MOST_WORDS;
 use crate::cap_vet::Demands;
-
-/// The most words that the limits of a call allow, of a message and of its charge.
-pub(crate) const MOST_WORDS: u64 = 268435456;
 
 /// The highest sum of flags: 1 and 2.
 const ALL_FLAGS: u32 = 3;

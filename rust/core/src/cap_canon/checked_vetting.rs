@@ -11,16 +11,11 @@ use crate::cap_vet::{limits_under, vet_with, vet_with_turn, Demands, Limits, Sto
 pub fn is_canonical<M: Segments>(v: &Vetted<'_, M>) -> bool {
     // For the proof alone: what is known of the message.
     let _report = v.report();
-    match check_in_order(v.message(), greatest()) {
+    match check_in_order(v.message(), Limits::greatest()) {
         Ok((_, canonical)) => canonical,
         Err(Stopped::Refused(_)) => false,
         Err(Stopped::ByTurn(NotCanonical)) => false,
     }
-}
-
-// The limits that each accepted message is within.
-fn greatest() -> Limits {
-    Limits::new(268_435_456, 256).unwrap()
 }
 
 /// Vets a message under demands, as [`vet_with`] does, and returns with an accepted message whether

@@ -1,10 +1,10 @@
 // crates/cap_difference/src/difference.rt without its contracts, by tools/erase: that text is proved, this one is only tested.
 //! The first difference between an accepted message and its canonical copy.
 
+use crate::cap_difference::pointers::next_end;
 use crate::cap_difference::reason::DifferenceReason;
-use crate::cap_difference::search::DifferenceSearch;
 use crate::cap_frame::Segments;
-use crate::cap_vet::{vet_with_turn, Limits, Stopped, Vetted};
+use crate::cap_vet::{vet_with_turn, FirstTurn, Limits, Place, Stopped, Turn, Vetted};
 
 /// Where a message differs from its canonical copy first, and why.
 #[derive(Clone, Copy, Debug, PartialEq, Eq)]
@@ -31,17 +31,12 @@ pub struct Difference {
 pub fn first_difference<M: Segments>(v: &Vetted<'_, M>) -> Option<Difference> {
     let message = v.message();
     let report = v.report();
-    match vet_with_turn::<M, DifferenceSearch>(message, greatest()) {
+    match vet_with_turn::<M, DifferenceSearch>(message, Limits::greatest()) {
         Ok((_, search)) => trailing(message, search.end, report.pointers),
         Err(Stopped::ByTurn(difference)) => Some(difference),
         // The message is accepted.
         Err(Stopped::Refused(_)) => unreachable!(),
     }
-}
-
-// The limits that each accepted message is within.
-fn greatest() -> Limits {
-    Limits::new(268_435_456, 256).unwrap()
 }
 
 // Whether words come after the last object of a message of one segment: a copy ends at word `end`.
@@ -56,4 +51,57 @@ fn trailing<M: Segments>(message: &M, end: u64, pointers: u64) -> Option<Differe
         reason: DifferenceReason::Trailing,
         end,
     })
+}
+
+/// A walk through a message that has been as its canonical copy so far. It stops at the first pointer
+/// that isn't.
+struct DifferenceSearch {
+    /// Where a copy has the next object.
+    end: u64,
+}
+
+impl Turn for DifferenceSearch {
+    type Stop = Difference;
+
+    #[inline(always)]
+    fn after<M: Segments>(
+        &mut self,
+        message: &M,
+        s: u32,
+        w: u32,
+        _object: Place,
+        _may_be_lax: bool,
+        pointers: u64,
+        _cost: u64,
+    ) -> Result<(), Difference> {
+        match next_end(message, s, w, self.end) {
+            Ok(end) => {
+                self.end = end;
+                Ok(())
+            }
+            Err(reason) => Err(Difference {
+                segment: s,
+                word: w,
+                pointers,
+                reason,
+                end: self.end,
+            }),
+        }
+    }
+}
+
+impl FirstTurn for DifferenceSearch {
+    #[inline(always)]
+    fn begin<M: Segments>(message: &M) -> Result<DifferenceSearch, Difference> {
+        if message.count() != 1 {
+            return Err(Difference {
+                segment: 0,
+                word: 0,
+                pointers: 0,
+                reason: DifferenceReason::Segments,
+                end: 1,
+            });
+        }
+        Ok(DifferenceSearch { end: 1 })
+    }
 }

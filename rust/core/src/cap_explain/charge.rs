@@ -3,12 +3,12 @@
 
 use crate::cap_frame::Segments;
 use crate::cap_spec::{Reason, Refusal, StrictRefusal};
-use crate::cap_vet::{charge_up_to, Limits};
+use crate::cap_walk::{charge_up_to, Limits};
 
 /// The charge up to the pointer that this refusal of a message within limits names, with that
 /// pointer and its target, if the word limit is passed there. `None` if another reason applies. It
 /// walks only for the word limit. Allocates nothing.
-pub fn refusal_charge<M: Segments>(
+pub(crate) fn refusal_charge<M: Segments>(
     message: &M,
     refusal: &StrictRefusal,
     limits: Limits,

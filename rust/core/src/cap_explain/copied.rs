@@ -2,11 +2,11 @@
 //! What an accepted message has at its first difference, and what its canonical copy has there.
 
 use crate::cap_difference::{Difference, DifferenceReason};
-use crate::cap_explain::rows::{data_left, is_null, pointers_left, row_of, Row};
-use crate::cap_explain::target::{extent, Target};
+use crate::cap_explain::rows::{data_left, is_null_pointer, pointers_left, row_of, Row};
+use crate::cap_explain::target::Target;
 use crate::cap_explain::words::word_of;
 use crate::cap_frame::Segments;
-use crate::cap_ptr::{code, element_bits, kind, list_size};
+use crate::cap_ptr::{code, element_bits, extent, kind, list_size};
 
 /// What a copy has in the place of a word.
 #[derive(Clone, Copy)]
@@ -77,7 +77,7 @@ fn copied_pointer<M: Segments>(
             Copied::Word(copied_object(message, offset, target.word, row))
         }
         None => {
-            if is_null(message, word) {
+            if is_null_pointer(message, word) {
                 Copied::Word(0)
             } else {
                 Copied::NoCopy
@@ -105,7 +105,7 @@ fn differing_pointer<M: Segments>(
 /// The last word of a list of values, of which a copy has the bits of the values.
 fn differing_values<M: Segments>(message: &M, target: &Target) -> Option<DifferingWord> {
     let start = target.start.saturating_sub(u64::from(target.excess));
-    let word = (start + extent(target.word)).saturating_sub(1);
+    let word = (start + u64::from(extent(target.word))).saturating_sub(1);
     match word_of(message, target.segment, word) {
         Some(last) => {
             let count = u64::from(list_size(target.word));

@@ -3,7 +3,7 @@
 
 use crate::cap_difference::{Difference, DifferenceReason};
 use crate::cap_explain::copied::{differing_word, Copied, DifferingWord};
-use crate::cap_explain::explanation::{Explanation, CAPACITY, DIGITS};
+use crate::cap_explain::explanation::{Explanation, CAPACITY};
 use crate::cap_explain::landing::landing_of;
 use crate::cap_explain::lines::PLAIN;
 use crate::cap_explain::target::target_of;
@@ -22,17 +22,10 @@ fn push_copied(text: &mut Explanation, copied: Copied) {
     }
 }
 
-/// Appends the place of a word.
-fn push_word_place(text: &mut Explanation, segment: u32, word: u64) {
-    text.push_number(u64::from(segment));
-    text.push_text(b":");
-    text.push_number(word);
-}
-
 /// Appends the line of a word, with what a copy has in its place.
 fn push_word_line(text: &mut Explanation, differing: DifferingWord, value: u64) {
     text.push_text(b"  word ");
-    push_word_place(text, differing.segment, differing.word);
+    text.push_place(differing.segment, differing.word);
     text.push_text(b" ");
     text.push_hex(value);
     push_copied(text, differing.copied);

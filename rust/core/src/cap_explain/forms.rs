@@ -1,6 +1,7 @@
 // crates/cap_explain/src/forms.rt without its contracts, by tools/erase: that text is proved, this one is only tested.
 //! The texts of pointer words, by their forms and fields.
 
+use crate::cap_buffer::DIGITS;
 use crate::cap_explain::explanation::{Explanation, CAPACITY};
 use crate::cap_ptr::{
     cap_index, code, data_size, far_segment, kind, list_size, middle, pad, pointer_size, two,
@@ -30,11 +31,21 @@ pub(crate) fn excess(bits: u32) -> u32 {
     }
 }
 
+/// Appends the difference of two numbers, with its sign.
+pub(crate) fn push_difference(text: &mut Explanation, a: u64, b: u64) {
+    if a < b {
+        text.push_text(b"-");
+        text.push_number(b - a);
+    } else {
+        text.push_number(a - b);
+    }
+}
+
 /// Appends the offset of a struct or list pointer.
 fn push_offset(text: &mut Explanation, word: u64) {
     text.push_text(b", offset ");
     let bits = middle(word);
-    text.push_difference(bits as u64, excess(bits) as u64);
+    push_difference(text, bits as u64, excess(bits) as u64);
 }
 
 /// Appends the sizes of a struct.
@@ -77,7 +88,7 @@ fn push_list(text: &mut Explanation, word: u64) {
 /// Appends the fields of a far pointer.
 fn push_far(text: &mut Explanation, word: u64) {
     text.push_text(b"far pointer to ");
-    text.push_place(far_segment(word), pad(word));
+    text.push_place(far_segment(word), pad(word) as u64);
     text.push_named(b", pad words ", two(word) as u64 + 1);
 }
 

@@ -1,15 +1,16 @@
 // crates/cap_explain/src/lines.rt without its contracts, by tools/erase: that text is proved, this one is only tested.
 //! The lines of an explanation.
 
-use crate::cap_explain::explanation::{Explanation, CAPACITY, DIGITS};
-use crate::cap_explain::forms::{push_form, push_tag, FORM, TAG};
+use crate::cap_buffer::DIGITS;
+use crate::cap_explain::explanation::{Explanation, CAPACITY};
+use crate::cap_explain::forms::{push_difference, push_form, push_tag, FORM, TAG};
 use crate::cap_explain::landing::Landing;
 use crate::cap_explain::numbers::{MessageStart, Numbers};
 use crate::cap_explain::sentences::{sentence, Fault, SENTENCE};
-use crate::cap_explain::target::{extent, is_structs, needed, tag_of, Target};
-use crate::cap_explain::words::byte_of;
+use crate::cap_explain::target::{list_tag, Target};
+use crate::cap_explain::words::first_byte_of;
 use crate::cap_frame::Segments;
-use crate::cap_ptr::{far_segment, list_size, pad};
+use crate::cap_ptr::{extent, far_segment, is_structs, list_size, pad, words_of_elements};
 use crate::cap_spec::Reason;
 
 /// The space for one line without the form of a word.
@@ -46,7 +47,7 @@ pub(crate) fn push_byte_line<M: Segments>(
     segment: u32,
     word: u32,
 ) {
-    let byte = byte_of(message, numbers.has_table, segment, word);
+    let byte = first_byte_of(message, numbers.has_table, segment, word);
     text.push_named(b"  byte ", byte);
     text.push_text(b" of the message");
     push_input_place(text, numbers.start, byte);
@@ -70,7 +71,7 @@ pub(crate) fn push_pointer_line(text: &mut Explanation, word: u64) {
 /// Appends the line of a word of a landing pad.
 fn push_pad_line(text: &mut Explanation, segment: u32, place: u32, word: u64) {
     text.push_text(b"  pad ");
-    text.push_place(segment, place);
+    text.push_place(segment, place as u64);
     text.push_text(b" ");
     push_word(text, word);
 }
@@ -93,13 +94,13 @@ pub(crate) fn push_landing_lines(text: &mut Explanation, word: u64, landing: Lan
 fn push_target_place(text: &mut Explanation, target: &Target, word: u64) {
     text.push_number(u64::from(target.segment));
     text.push_text(b":");
-    text.push_difference(word, u64::from(target.excess));
+    push_difference(text, word, u64::from(target.excess));
 }
 
 /// Appends the first and the last word of the target.
 fn push_target_range(text: &mut Explanation, target: &Target) {
     push_target_place(text, target, target.start);
-    let words = extent(target.word);
+    let words = u64::from(extent(target.word));
     if words > 0 {
         text.push_text(b" to ");
         push_target_place(text, target, target.start + words - 1);
@@ -119,7 +120,7 @@ fn tag_note(word: u64) -> &'static [u8] {
 fn push_target_line(text: &mut Explanation, target: &Target) {
     text.push_text(b"  target ");
     push_target_range(text, target);
-    text.push_named(b", words ", extent(target.word));
+    text.push_named(b", words ", u64::from(extent(target.word)));
     text.push_text(tag_note(target.word));
     text.push_text(b"\n");
 }
@@ -150,7 +151,7 @@ pub(crate) fn push_target_lines<M: Segments>(
 ) {
     if let Some(target) = target {
         push_target_line(text, target);
-        push_tag_line(text, target, tag_of(message, target));
+        push_tag_line(text, target, list_tag(message, target));
     }
 }
 
@@ -203,7 +204,7 @@ fn push_words_line(text: &mut Explanation, words: u64) {
 /// Appends the words that the elements of the list of structs `word` need by its tag, and those that
 /// it has.
 fn push_elements_line(text: &mut Explanation, word: u64, tag: u64) {
-    text.push_named(b"  elements need words ", needed(tag));
+    text.push_named(b"  elements need words ", words_of_elements(tag));
     text.push_named(b", list has words ", u64::from(list_size(word)));
     text.push_text(b"\n");
 }
@@ -211,7 +212,7 @@ fn push_elements_line(text: &mut Explanation, word: u64, tag: u64) {
 /// Appends the same of the list at a target, if there is one.
 fn push_overrun_line<M: Segments>(text: &mut Explanation, message: &M, target: &Option<Target>) {
     if let Some(target) = target {
-        if let Some(tag) = tag_of(message, target) {
+        if let Some(tag) = list_tag(message, target) {
             push_elements_line(text, target.word, tag);
         }
     }
@@ -230,6 +231,22 @@ pub(crate) fn push_excess_line<M: Segments>(
         Fault::Refused(Reason::DepthLimit) => push_level_line(text, numbers.depth),
         Fault::Refused(Reason::WordLimit) => push_charge_line(text, numbers.charge, numbers.words),
         _ => {}
+    }
+}
+
+/// Appends that the path returns to the pointer word, which it reached at this level.
+fn push_cycle_line(text: &mut Explanation, level: u32) {
+    text.push_named(
+        b"  cycle: the path returns to this pointer word, which it reached at level ",
+        u64::from(level),
+    );
+    text.push_text(b"\n");
+}
+
+/// Appends the same, if it does.
+pub(crate) fn push_cycle_lines(text: &mut Explanation, level: Option<u32>) {
+    if let Some(level) = level {
+        push_cycle_line(text, level);
     }
 }
 

@@ -1,14 +1,15 @@
 // crates/cap_explain/src/path.rt without its contracts, by tools/erase: that text is proved, this one is only tested.
 //! The line of a path.
 
-use crate::cap_explain::explanation::{Explanation, CAPACITY, DIGITS, FEW_DIGITS};
+use crate::cap_buffer::{DIGITS, STEP, STEPS};
+use crate::cap_explain::explanation::{Explanation, CAPACITY};
 use crate::cap_spec::Step;
 
-/// The most steps of a path that has a line.
-pub(crate) const STEPS: usize = 257;
+/// The most steps of a path that is shown whole.
+const WHOLE: usize = 24;
 
-/// The space for the text of one step.
-const STEP: usize = FEW_DIGITS + 2;
+/// How many steps of a longer path are shown at each end.
+const ENDS: usize = 8;
 
 /// The space for the line of a path without its steps.
 const HEAD: usize = 10;
@@ -16,34 +17,28 @@ const HEAD: usize = 10;
 /// The space for the line of a path.
 pub(crate) const PATH: usize = HEAD + STEP * STEPS;
 
-/// Appends the text of a step.
-fn push_step(text: &mut Explanation, step: Step) {
-    match step {
-        Step::Ptr(index) => text.push_named(b"/p", u64::from(index)),
-        Step::Item(index) => text.push_named(b"/i", u64::from(index)),
-    }
+/// Appends the text of a long path: its first and last steps, and how many are between.
+fn push_shortened(text: &mut Explanation, steps: &[Step]) {
+    let rest = steps.len() - ENDS;
+    text.push_steps(&steps[..ENDS]);
+    text.push_named(b"/.. ", (rest - ENDS) as u64);
+    text.push_text(b" steps ..");
+    text.push_steps(&steps[rest..]);
 }
 
-/// Appends the texts of steps.
-fn push_steps(text: &mut Explanation, steps: &[Step]) {
-    for step in steps {
-        push_step(text, *step);
-    }
-}
-
-/// Appends the text of a path.
-pub(crate) fn push_path(text: &mut Explanation, steps: &[Step]) {
-    if steps.is_empty() {
-        text.push_text(b"/");
+/// Appends the text of a path, shortened if it has more than 24 steps.
+pub(crate) fn push_shown_path(text: &mut Explanation, steps: &[Step]) {
+    if steps.len() > WHOLE {
+        push_shortened(text, steps);
     } else {
-        push_steps(text, steps);
+        text.push_path(steps);
     }
 }
 
 /// Appends the line of a path.
 fn push_path_line(text: &mut Explanation, steps: &[Step]) {
     text.push_text(b"  path ");
-    push_path(text, steps);
+    push_shown_path(text, steps);
     text.push_text(b"\n");
 }
 

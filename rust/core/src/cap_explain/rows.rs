@@ -2,7 +2,7 @@
 //! How much of structs, alone or in a list, a canonical copy has.
 
 use crate::cap_explain::landing::{landing_of, Landing};
-use crate::cap_explain::target::{tag_of, Target};
+use crate::cap_explain::target::{list_tag, Target};
 use crate::cap_explain::words::word_of;
 use crate::cap_frame::Segments;
 use crate::cap_ptr::{data_size, kind, middle, pointer_size};
@@ -21,7 +21,7 @@ pub(crate) struct Row {
 
 /// A pointer word denotes null: it is zero, or the landing pad that it leads to is (encoding:
 /// Inter-Segment Pointers).
-pub(crate) fn is_null<M: Segments>(message: &M, word: u64) -> bool {
+pub(crate) fn is_null_pointer<M: Segments>(message: &M, word: u64) -> bool {
     if word == 0 {
         return true;
     }
@@ -36,7 +36,7 @@ fn is_empty<M: Segments>(message: &M, as_pointer: bool, word: Option<u64>) -> bo
     match word {
         Some(word) => {
             if as_pointer {
-                is_null(message, word)
+                is_null_pointer(message, word)
             } else {
                 word == 0
             }
@@ -105,7 +105,7 @@ fn elements(target: &Target, tag: Option<u64>) -> Option<Row> {
 /// The structs of a target: itself, or those of a list.
 pub(crate) fn row_of<M: Segments>(message: &M, target: &Target) -> Option<Row> {
     if kind(target.word) != 0 {
-        return elements(target, tag_of(message, target));
+        return elements(target, list_tag(message, target));
     }
     Some(Row {
         segment: target.segment,

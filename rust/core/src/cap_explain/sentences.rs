@@ -3,7 +3,8 @@
 
 use crate::cap_difference::DifferenceReason;
 use crate::cap_explain::landing::Landing;
-use crate::cap_explain::target::{is_structs, Target};
+use crate::cap_explain::target::Target;
+use crate::cap_ptr::is_structs;
 use crate::cap_spec::{Lax, Reason};
 
 /// The most bytes of a sentence.

@@ -5,9 +5,7 @@ use crate::cap_explain::forms::excess;
 use crate::cap_explain::landing::{is_short_far, Landing};
 use crate::cap_explain::words::word_of;
 use crate::cap_frame::Segments;
-use crate::cap_ptr::{
-    code, data_size, element_bits, far_segment, kind, list_size, middle, pad, pointer_size,
-};
+use crate::cap_ptr::{far_segment, is_structs, kind, middle, pad};
 
 /// The target of a pointer, whether it lies inside its segment or not. It starts `start - excess`
 /// words after the beginning of its segment.
@@ -78,38 +76,11 @@ pub(crate) fn segment_after(segment: u32, word: u64, landing: Landing) -> u32 {
     }
 }
 
-/// A word is a pointer to a list of structs.
-pub(crate) fn is_structs(word: u64) -> bool {
-    if kind(word) == 1 {
-        code(word) == 7
-    } else {
-        false
-    }
-}
-
 /// The tag of a list of structs, if the target begins inside its segment.
-pub(crate) fn tag_of<M: Segments>(message: &M, target: &Target) -> Option<u64> {
+pub(crate) fn list_tag<M: Segments>(message: &M, target: &Target) -> Option<u64> {
     let excess = u64::from(target.excess);
     if !is_structs(target.word) || target.start < excess {
         return None;
     }
     word_of(message, target.segment, target.start - excess)
-}
-
-/// How many words the elements of a tag need.
-pub(crate) fn needed(tag: u64) -> u64 {
-    u64::from(middle(tag)) * (u64::from(data_size(tag)) + u64::from(pointer_size(tag)))
-}
-
-/// How many words the target of a struct or list pointer takes, with a tag.
-pub(crate) fn extent(word: u64) -> u64 {
-    if kind(word) == 0 {
-        return u64::from(data_size(word)) + u64::from(pointer_size(word));
-    }
-    let size = u64::from(list_size(word));
-    match code(word) {
-        7 => 1 + size,
-        6 => size,
-        code => (u64::from(element_bits(code)) * size + 63) / 64,
-    }
 }

@@ -3,6 +3,9 @@
 
 use crate::cap_words::SourceFault;
 
+/// The most words that a limit of a message's words, or of its charge, may allow.
+pub const MOST_WORDS: u64 = 268435456;
+
 /// The most words that a message may have in all its segments together, at most 268435456.
 #[derive(Clone, Copy, Debug, PartialEq, Eq)]
 pub struct SizeLimit {
@@ -12,7 +15,7 @@ pub struct SizeLimit {
 impl SizeLimit {
     /// A limit of `words` words, or `None` past 268435456.
     pub fn new(words: u64) -> Option<SizeLimit> {
-        if words <= 268435456 {
+        if words <= MOST_WORDS {
             Some(SizeLimit { words })
         } else {
             None

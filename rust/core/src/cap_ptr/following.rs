@@ -3,7 +3,10 @@
 
 use crate::cap_frame::Segments;
 use crate::cap_ptr::forms::{far_segment, kind, middle, pad, two, Pointer};
-use crate::cap_ptr::shapes::{start_of, target_at, Followed};
+use crate::cap_ptr::near::structs_target;
+use crate::cap_ptr::shapes::{
+    empty_elements, extent, is_structs, plain_shape, start_of, Followed, Target,
+};
 use crate::cap_spec::Reason;
 
 /// What word `w` of segment `s`, a pointer, leads to: null, a capability, or an object that lies
@@ -85,6 +88,51 @@ fn object<M: Segments>(
         return Err(Reason::OutOfSegment);
     };
     target_at(message, pads, segment, start, word)
+}
+
+// The target of the word `word`, which encodes its shape, from word `start` of a segment on.
+#[inline(always)]
+fn target_at<M: Segments>(
+    message: &M,
+    pads: u8,
+    segment: u32,
+    start: u64,
+    word: u64,
+) -> Result<Followed, Reason> {
+    let words = extent(word);
+    if start + u64::from(words) > u64::from(message.len(segment)) {
+        return Err(Reason::OutOfSegment);
+    }
+    let start = start as u32;
+    if is_structs(word) {
+        return composite(message, pads, segment, start, word);
+    }
+    let charge = u64::from(pads) + u64::from(words) + empty_elements(word);
+    Ok(Followed::Target(Target {
+        segment,
+        start,
+        words,
+        pads,
+        charge,
+        shape: plain_shape(word),
+    }))
+}
+
+// The target of the word `word` of a list of structs, whose words lie inside their segment.
+// It is inlined, since a call writes its result in pieces, and its caller waits for them.
+#[inline(always)]
+fn composite<M: Segments>(
+    message: &M,
+    pads: u8,
+    segment: u32,
+    start: u32,
+    word: u64,
+) -> Result<Followed, Reason> {
+    let tag = message.word(segment, start);
+    match structs_target(word, tag, segment, start, pads) {
+        Ok(target) => Ok(Followed::Target(target)),
+        Err(reason) => Err(reason),
+    }
 }
 
 // What a far pointer with a one-word pad leads to.

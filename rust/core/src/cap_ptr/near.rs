@@ -1,8 +1,9 @@
 // crates/cap_ptr/src/near.rt without its contracts, by tools/erase: that text is proved, this one is only tested.
 //! Objects that their pointer word describes, alone or with the tag of a list of structs.
 
+use crate::cap_frame::Segments;
 use crate::cap_ptr::forms::{code, data_size, kind, list_size, middle, pointer_size};
-use crate::cap_ptr::shapes::{plain_shape, start_of, Shape, Target};
+use crate::cap_ptr::shapes::{is_structs, plain_shape, start_of, Shape, Target};
 use crate::cap_spec::Reason;
 
 /// The words of an object that its pointer word alone describes. Its pointers, if it has any, are
@@ -140,10 +141,22 @@ pub fn structs_target(
     })
 }
 
-/// A word is of a list of structs.
+/// The list of structs that this word and the list's tag describe (encoding: Lists). The word is the
+/// pointer word or, after a landing pad, the word that gives its sizes. It is at this place. `pads` is
+/// the number of words of the landing pad. `None` if the word or the tag describes none: [`crate::follow`] then says where the pointer leads.
 #[inline(always)]
-pub(crate) fn is_structs(word: u64) -> bool {
-    kind(word) == 1 && code(word) == 7
+pub fn struct_list<M: Segments>(
+    message: &M,
+    pads: u8,
+    segment: u32,
+    at: u32,
+    word: u64,
+) -> Option<Target> {
+    let start = tag_at(word, at, message.len(segment))?;
+    match structs_target(word, message.word(segment, start), segment, start, pads) {
+        Ok(list) => Some(list),
+        Err(_) => None,
+    }
 }
 
 /// How many words the elements take that a tag gives (encoding: Lists).

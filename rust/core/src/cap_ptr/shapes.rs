@@ -2,10 +2,7 @@
 //! What following a pointer word gives: an object's sizes and shape, whether it lies inside its
 //! segment, and what it is charged.
 
-use crate::cap_frame::Segments;
 use crate::cap_ptr::forms::{code, data_size, kind, list_size, pointer_size};
-use crate::cap_ptr::near::{is_structs, structs_target};
-use crate::cap_spec::Reason;
 use crate::cap_words::signed_offset;
 
 /// The sizes of an object (encoding: Structs, Lists).
@@ -92,6 +89,12 @@ impl Followed {
     }
 }
 
+/// Whether a pointer word is of a list of structs (encoding: Lists).
+#[inline(always)]
+pub fn is_structs(word: u64) -> bool {
+    kind(word) == 1 && code(word) == 7
+}
+
 /// How many bits each element of a list of this code has: codes 0 to 5 are those of values, and
 /// the others count as 64 (encoding: Lists).
 #[inline(always)]
@@ -114,7 +117,7 @@ pub(crate) fn list_words(code: u8, size: u32) -> u32 {
 
 /// How many words the object of a struct or list pointer takes, with a tag.
 #[inline(always)]
-pub(crate) fn extent(word: u64) -> u32 {
+pub fn extent(word: u64) -> u32 {
     if kind(word) == 0 {
         return u32::from(data_size(word)) + u32::from(pointer_size(word));
     }
@@ -142,35 +145,7 @@ pub(crate) fn plain_shape(word: u64) -> Shape {
     }
 }
 
-/// The target of the word `word`, which encodes its shape, from word `start` of a segment on.
-#[inline(always)]
-pub(crate) fn target_at<M: Segments>(
-    message: &M,
-    pads: u8,
-    segment: u32,
-    start: u64,
-    word: u64,
-) -> Result<Followed, Reason> {
-    let words = extent(word);
-    if start + u64::from(words) > u64::from(message.len(segment)) {
-        return Err(Reason::OutOfSegment);
-    }
-    let start = start as u32;
-    if is_structs(word) {
-        return composite(message, pads, segment, start, word);
-    }
-    let charge = u64::from(pads) + u64::from(words) + empty_elements(word);
-    Ok(Followed::Target(Target {
-        segment,
-        start,
-        words,
-        pads,
-        charge,
-        shape: plain_shape(word),
-    }))
-}
-
-// The word that the object of a struct or list pointer starts at, if it isn't negative.
+/// The word that the object of a struct or list pointer starts at, if it isn't negative.
 #[inline(always)]
 pub(crate) fn start_of(place: u32, word: u64) -> Option<u64> {
     let start = i64::from(place) + 1 + signed_offset(word);
@@ -181,28 +156,30 @@ pub(crate) fn start_of(place: u32, word: u64) -> Option<u64> {
     }
 }
 
-// The target of the word `word` of a list of structs, whose words lie inside their segment.
-// It is inlined, since a call writes its result in pieces, and its caller waits for them.
-#[inline(always)]
-fn composite<M: Segments>(
-    message: &M,
-    pads: u8,
-    segment: u32,
-    start: u32,
-    word: u64,
-) -> Result<Followed, Reason> {
-    let tag = message.word(segment, start);
-    match structs_target(word, tag, segment, start, pads) {
-        Ok(target) => Ok(Followed::Target(target)),
-        Err(reason) => Err(reason),
-    }
-}
-
-// How many elements of a list without a tag have no bits.
-fn empty_elements(word: u64) -> u64 {
+/// How many elements of a list without a tag have no bits.
+pub(crate) fn empty_elements(word: u64) -> u64 {
     if kind(word) == 1 && code(word) == 0 {
         u64::from(list_size(word))
     } else {
         0
+    }
+}
+
+/// How many levels the structs of a list of `count` elements take below their list.
+#[inline(always)]
+pub fn levels_of_elements(count: u32) -> u32 {
+    if count == 0 {
+        0
+    } else {
+        1
+    }
+}
+
+/// How many levels an object takes below its own.
+#[inline(always)]
+pub fn levels_taken(shape: &Shape) -> u32 {
+    match shape {
+        Shape::Structs { count, .. } => levels_of_elements(*count),
+        _ => 0,
     }
 }

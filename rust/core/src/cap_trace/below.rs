@@ -1,11 +1,11 @@
 // crates/cap_trace/src/below.rt without its contracts, by tools/erase: that text is proved, this one is only tested.
-//! What a pointer word leads to, as the object that the way goes on through.
+//! What a pointer word leads to, as the object that the search goes on through.
 
 use crate::cap_frame::Segments;
-use crate::cap_ptr::{follow, Followed, Shape, Target};
+use crate::cap_ptr::{follow, levels_taken, Followed, Shape, Target};
 use crate::cap_trace::branch::{Branch, Form, WordPlace};
 
-/// Where a way goes on after a pointer word.
+/// Where the search goes on after a pointer word.
 pub(crate) enum Below {
     /// Through the object that the pointer leads to, if it has pointers.
     Object(Option<Branch>),
@@ -13,15 +13,18 @@ pub(crate) enum Below {
     Blocked,
 }
 
-/// Where a way goes on after the pointer word at this place, which leads to this level.
-#[inline(always)]
+/// Where the search goes on after the pointer word at this place, which leads to this level.
 pub(crate) fn look_below<M: Segments>(
     message: &M,
     depth: u32,
     from: &WordPlace,
     level: u32,
 ) -> Below {
-    match follow(message, from.segment, from.word()) {
+    // Most pointers of a list may be null, and `follow` takes longer to say so (docs/internals/speed.md).
+    if message.word(from.segment, from.at) == 0 {
+        return Below::Object(None);
+    }
+    match follow(message, from.segment, from.at) {
         Ok(Followed::Target(target)) => below_target(&target, depth, level),
         Ok(Followed::Null { .. }) => Below::Object(None),
         Ok(Followed::Cap { .. }) => Below::Object(None),
@@ -29,32 +32,15 @@ pub(crate) fn look_below<M: Segments>(
     }
 }
 
-/// The same of a word that leads to this target.
-#[inline(always)]
-pub(crate) fn below_target(target: &Target, depth: u32, level: u32) -> Below {
+// The same of a word that leads to this target.
+fn below_target(target: &Target, depth: u32, level: u32) -> Below {
     if level + levels_taken(&target.shape) > depth {
         return Below::Blocked;
     }
     Below::Object(branch_of(target))
 }
 
-// How many levels an object takes below its own.
-#[inline(always)]
-fn levels_taken(shape: &Shape) -> u32 {
-    match shape {
-        Shape::Structs { count, .. } => {
-            if *count == 0 {
-                0
-            } else {
-                1
-            }
-        }
-        _ => 0,
-    }
-}
-
 // The pointer words of an object, if it has pointers.
-#[inline(always)]
 fn branch_of(target: &Target) -> Option<Branch> {
     let (segment, start) = (target.segment, target.start);
     match target.shape {

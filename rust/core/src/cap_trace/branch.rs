@@ -19,44 +19,15 @@ pub(crate) enum Form {
 #[derive(Clone, Copy)]
 pub(crate) struct WordPlace {
     pub(crate) segment: u32,
-    // Below 2^32. In 64 bits the processor needn't extend it before each load.
-    pub(crate) at: u64,
-}
-
-impl WordPlace {
-    /// Its number in its segment.
-    #[inline(always)]
-    pub(crate) fn word(&self) -> u32 {
-        self.at as u32
-    }
-}
-
-/// The pointer word that a search is at, and how many words of its row come after it.
-#[derive(Clone, Copy)]
-pub(crate) struct Cursor {
-    pub(crate) place: WordPlace,
-    pub(crate) left: u32,
-}
-
-impl Cursor {
-    /// The same cursor. The bytes between its fields aren't copied: in a loop they take registers.
-    #[inline(always)]
-    pub(crate) fn copied(&self) -> Cursor {
-        let WordPlace { segment, at } = self.place;
-        Cursor {
-            place: WordPlace { segment, at },
-            left: self.left,
-        }
-    }
+    pub(crate) at: u32,
 }
 
 /// The pointers of an object, or the elements of a list of structs, in their order. The last one that
 /// was taken is the step of a path. Pointers have no word between them: they are a row.
 #[derive(Clone, Copy, Default)]
 pub(crate) struct Branch {
-    // These two share four bytes, so that a branch has 20.
     pub(crate) form: Form,
-    pub(crate) segment: u16,
+    pub(crate) segment: u32,
     /// The word where they start.
     pub(crate) start: u32,
     /// How many there are.
@@ -71,11 +42,10 @@ pub(crate) struct Branch {
 
 impl Branch {
     /// A row of `count` pointers from this word on, of which none is taken.
-    #[inline(always)]
     pub(crate) fn row(form: Form, segment: u32, start: u32, count: u32) -> Branch {
         Branch {
             form,
-            segment: segment as u16,
+            segment,
             start,
             count,
             taken: 0,
@@ -84,38 +54,30 @@ impl Branch {
         }
     }
 
-    /// The root word, as a row that has been taken.
-    #[inline(always)]
-    pub(crate) fn root() -> Branch {
-        Branch {
-            taken: 1,
-            ..Branch::row(Form::Struct, 0, 0, 1)
-        }
-    }
-
-    /// The next word of a row, and how many come after it.
-    #[inline(always)]
-    pub(crate) fn next_word(&self) -> Cursor {
-        Cursor {
-            place: WordPlace {
-                segment: u32::from(self.segment),
-                at: u64::from(self.start + self.taken),
-            },
-            left: self.count - self.taken - 1,
-        }
-    }
-
-    /// Takes the next element, and gives the row of its pointers.
-    #[inline(always)]
-    pub(crate) fn take_element(&mut self) -> Branch {
+    /// The row of the pointers of the next element.
+    pub(crate) fn element(&self) -> Branch {
         let (data_words, pointers) = (u32::from(self.data_words), u32::from(self.pointers));
-        let at = self.start + self.taken * (data_words + pointers) + data_words;
-        self.taken += 1;
-        Branch::row(Form::Struct, u32::from(self.segment), at, pointers)
+        let start = self.start + self.taken * (data_words + pointers) + data_words;
+        Branch::row(Form::Struct, self.segment, start, pointers)
+    }
+
+    /// The same branch after so many more are taken.
+    pub(crate) fn taken_more(&self, more: u32) -> Branch {
+        Branch {
+            taken: self.taken + more,
+            ..*self
+        }
+    }
+
+    /// The place of the last word of a row that was taken.
+    pub(crate) fn place(&self) -> WordPlace {
+        WordPlace {
+            segment: self.segment,
+            at: self.start + self.taken.saturating_sub(1),
+        }
     }
 
     /// The step to the last one that was taken.
-    #[inline(always)]
     pub(crate) fn step(&self) -> Step {
         let number = self.taken.saturating_sub(1);
         match self.form {

@@ -2,10 +2,9 @@
 //! The first pointer that uses a word which a later pointer uses too.
 
 use crate::cap_frame::Segments;
-use crate::cap_trace::branch::WordPlace;
-use crate::cap_trace::seeking::{pass, seek, start, BranchStack};
+use crate::cap_trace::seeking::{pass, pass_nulls, seek, BranchStack, ROOT};
 use crate::cap_trace::used_words::{uses_one, UsedWords};
-use crate::cap_vet::Limits;
+use crate::cap_walk::Limits;
 
 /// The first pointer that uses a word which a later pointer uses too.
 #[derive(Clone, Copy, Debug, PartialEq, Eq)]
@@ -17,9 +16,6 @@ pub struct EarlierPointer {
     /// Its number in preorder, where the root word is number 1.
     pub pointers: u64,
 }
-
-/// The root word, and the most steps to a pointer word.
-const BRANCHES: usize = 257;
 
 /// The first pointer in preorder that uses a word which the pointer word of this number uses too.
 /// `number` may be the `pointers` of an overlap. A pointer uses its landing pads and the words of its
@@ -37,49 +33,42 @@ pub fn earlier_pointer<M: Segments>(
     earlier_within(message, limits.depth(), number)
 }
 
-// The same by the depth limit alone.
-fn earlier_within<M: Segments>(message: &M, depth: u32, number: u64) -> Option<EarlierPointer> {
-    let named = word_of_number(message, depth, number)?;
-    let used = UsedWords::at(message, named.segment, named.word())?;
-    first_using(message, depth, number, &used)
-}
-
-// The pointer word of this number. `None` if it can't be traced.
+// The same by the depth limit alone. Its stack of branches is no part of a caller's frame.
 #[inline(never)]
-fn word_of_number<M: Segments>(message: &M, depth: u32, number: u64) -> Option<WordPlace> {
-    if number == 0 || message.len(0) == 0 {
-        return None;
-    }
-    let mut branches: BranchStack<BRANCHES> = BranchStack::new();
-    seek(message, depth, number, &mut branches)
+fn earlier_within<M: Segments>(message: &M, depth: u32, number: u64) -> Option<EarlierPointer> {
+    let mut branches = BranchStack::new();
+    let named = seek(message, depth, number, &mut branches)?;
+    let used = UsedWords::at(message, named.segment, named.at)?;
+    branches.clear();
+    first_using(message, depth, number, &used, &mut branches)
 }
 
 // The first pointer that uses one of these words, of those before the word of this number.
-#[inline(never)]
 fn first_using<M: Segments>(
     message: &M,
     depth: u32,
     number: u64,
     used: &UsedWords,
+    branches: &mut BranchStack,
 ) -> Option<EarlierPointer> {
-    let mut branches: BranchStack<BRANCHES> = BranchStack::new();
-    let mut here = start(&mut branches);
+    let mut here = ROOT;
     let mut at = 1;
     'words: loop {
+        at += pass_nulls(message, number - at, branches, &mut here);
         if at == number {
             return None;
         }
-        let (segment, word) = (here.place.segment, here.place.word());
-        if uses_one(message, segment, word, used) {
+        if uses_one(message, here.segment, here.at, used) {
             return Some(EarlierPointer {
-                segment,
-                word,
+                segment: here.segment,
+                word: here.at,
                 pointers: at,
             });
         }
-        // The word of this number comes later.
-        if pass(message, depth, 1, &mut branches, &mut here) == 0 {
-            unreachable!();
+        match pass(message, depth, branches, &here) {
+            Some(next) => here = next,
+            // The word of this number comes later.
+            None => unreachable!(),
         }
         at += 1;
     }

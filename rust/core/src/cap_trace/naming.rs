@@ -4,11 +4,9 @@
 use crate::cap_frame::Segments;
 use crate::cap_spec::{Step, StrictRefusal};
 use crate::cap_trace::earlier::{earlier_pointer, EarlierPointer};
+use crate::cap_trace::seeking::STEPS;
 use crate::cap_trace::tracing::path_of_pointer;
-use crate::cap_vet::Limits;
-
-/// The most steps of a path to a pointer: no limit allows a deeper level.
-const STEPS: usize = 256;
+use crate::cap_walk::Limits;
 
 /// The path to the pointer that a refusal or an overlap names, if it names one. A caller may keep
 /// one for many messages.

@@ -5,7 +5,7 @@ use crate::cap_frame::Segments;
 use crate::cap_trace::branch::Branch;
 use crate::cap_trace::seeking::{seek, BranchStack};
 use crate::cap_trace::slot::StepSlot;
-use crate::cap_vet::Limits;
+use crate::cap_walk::Limits;
 
 /// Writes the path to the pointer word of this number in preorder, where the root word is number 1,
 /// and returns how many steps it has. These are at most as many as the depth limit has levels.
@@ -14,8 +14,6 @@ use crate::cap_vet::Limits;
 ///
 /// `None` if the message has no such word, or if a pointer before it can't be followed or leads past
 /// the depth limit. The buffer is then unchanged. The word limit has no effect. Allocates nothing.
-// It is not inlined, so that its loop has all registers.
-#[inline(never)]
 pub fn path_of_pointer<M: Segments, S: StepSlot>(
     message: &M,
     limits: Limits,
@@ -25,41 +23,22 @@ pub fn path_of_pointer<M: Segments, S: StepSlot>(
     traced(message, limits.depth(), number, steps)
 }
 
-// The same by the depth limit alone.
+// The same by the depth limit alone. Its stack of branches is no part of a caller's frame.
+#[inline(never)]
 fn traced<M: Segments, S: StepSlot>(
     message: &M,
     depth: u32,
     number: u64,
     steps: &mut [S],
 ) -> Option<usize> {
-    if number == 0 || message.len(0) == 0 {
-        return None;
-    }
-    // A search initializes its branches. The default depth limit is 64.
-    if depth <= 64 {
-        return traced_within::<M, S, 65>(message, depth, number, steps);
-    }
-    traced_within::<M, S, 257>(message, depth, number, steps)
-}
-
-// The same of a message with a root word, with capacity for it and for fewer than `N` steps.
-#[inline(always)]
-fn traced_within<M: Segments, S: StepSlot, const N: usize>(
-    message: &M,
-    depth: u32,
-    number: u64,
-    steps: &mut [S],
-) -> Option<usize> {
-    let mut branches: BranchStack<N> = BranchStack::new();
+    let mut branches = BranchStack::new();
     match seek(message, depth, number, &mut branches) {
-        Some(_) => Some(write_path(&branches.as_slice()[1..], steps)),
+        Some(_) => Some(write_path(branches.as_slice(), steps)),
         None => None,
     }
 }
 
-// Writes the path over these branches to the start of the buffer, if it fits. Gives how many steps it
-// has. The search doesn't share its registers.
-#[inline(never)]
+// Writes the path over these branches to the start of the buffer, if it fits. Gives how many steps it has.
 fn write_path<S: StepSlot>(branches: &[Branch], steps: &mut [S]) -> usize {
     let count = branches.len();
     if count > steps.len() {

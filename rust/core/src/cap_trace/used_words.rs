@@ -2,15 +2,7 @@
 //! The words that following a pointer uses.
 
 use crate::cap_frame::Segments;
-use crate::cap_ptr::{far_segment, follow, kind, pad, two, Followed};
-use crate::cap_vet::Place;
-
-/// No words.
-const NO_WORDS: Place = Place {
-    segment: 0,
-    start: 0,
-    words: 0,
-};
+use crate::cap_ptr::{far_segment, follow, kind, pad, two, Followed, Place};
 
 /// The words that following a pointer uses: those of its landing pads and those of its object.
 #[derive(Clone, Copy)]
@@ -53,19 +45,15 @@ pub(crate) fn uses_one<M: Segments>(message: &M, s: u32, w: u32, words: &UsedWor
 // The words of the object that a pointer leads to.
 fn object_at(followed: &Followed) -> Place {
     match followed {
-        Followed::Target(target) => Place {
-            segment: target.segment,
-            start: target.start,
-            words: target.words,
-        },
-        Followed::Null { .. } | Followed::Cap { .. } => NO_WORDS,
+        Followed::Target(target) => Place::of(target),
+        Followed::Null { .. } | Followed::Cap { .. } => Place::NONE,
     }
 }
 
 // The words of the landing pad of a pointer word.
 fn pads_at(word: u64) -> Place {
     if kind(word) != 2 {
-        return NO_WORDS;
+        return Place::NONE;
     }
     Place {
         segment: far_segment(word),

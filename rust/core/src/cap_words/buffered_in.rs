@@ -4,7 +4,7 @@
 #[cfg(feature = "std")]
 use crate::rattle::Vec;
 
-use crate::cap_words::ends::{ByteIn, InFault};
+use crate::cap_words::byte_io::{ByteIn, InFault};
 use crate::rattle::alloc::{AllocError, Global};
 use std::io::Read;
 

@@ -1,7 +1,7 @@
 // crates/cap_words/src/from_read.rt without its contracts, by tools/erase: that text is proved, this one is only tested.
 //! An input over std's readers.
 
-use crate::cap_words::ends::{ByteIn, InFault};
+use crate::cap_words::byte_io::{ByteIn, InFault};
 use std::io::Read;
 
 /// Reads from a std reader. Each error of the reader, an interruption too, is one failure, and

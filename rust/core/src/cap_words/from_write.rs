@@ -1,7 +1,7 @@
 // crates/cap_words/src/from_write.rt without its contracts, by tools/erase: that text is proved, this one is only tested.
 //! An output over std's writers.
 
-use crate::cap_words::ends::{ByteOut, OutFault};
+use crate::cap_words::byte_io::{ByteOut, OutFault};
 use std::io::Write;
 
 /// Writes to a std writer, and flushes it where `flush` asks for it. Each error of the writer, an

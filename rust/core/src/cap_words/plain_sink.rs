@@ -1,7 +1,7 @@
 // crates/cap_words/src/plain_sink.rt without its contracts, by tools/erase: that text is proved, this one is only tested.
 //! Words to the plain encoding, eight bytes a word.
 
-use crate::cap_words::ends::ByteOut;
+use crate::cap_words::byte_io::ByteOut;
 use crate::cap_words::sinks::{SinkFault, WordSink};
 use crate::cap_words::transfer::write_all;
 use crate::cap_words::word::bytes_of;

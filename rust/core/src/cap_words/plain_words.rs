@@ -1,7 +1,7 @@
 // crates/cap_words/src/plain_words.rt without its contracts, by tools/erase: that text is proved, this one is only tested.
 //! Words from the plain encoding, eight bytes a word.
 
-use crate::cap_words::ends::{ByteIn, Phase};
+use crate::cap_words::byte_io::{ByteIn, Phase};
 use crate::cap_words::sources::{SourceFault, WordSource};
 use crate::cap_words::transfer::Counted;
 use crate::cap_words::word::word_of;

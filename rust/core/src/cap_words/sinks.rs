@@ -1,7 +1,7 @@
 // crates/cap_words/src/sinks.rt without its contracts, by tools/erase: that text is proved, this one is only tested.
 //! Sinks of words.
 
-use crate::cap_words::ends::OutFault;
+use crate::cap_words::byte_io::OutFault;
 
 /// Why a sink didn't take a word, or wasn't finished.
 #[derive(Clone, Copy, Debug, PartialEq, Eq)]

@@ -1,7 +1,7 @@
 // crates/cap_words/src/slice_in.rt without its contracts, by tools/erase: that text is proved, this one is only tested.
 //! An input over bytes in memory.
 
-use crate::cap_words::ends::{ByteIn, InFault};
+use crate::cap_words::byte_io::{ByteIn, InFault};
 
 /// Reads a byte slice. It never fails.
 #[derive(Clone, Copy, Debug)]

@@ -4,7 +4,7 @@
 #[cfg(feature = "std")]
 use crate::rattle::Vec;
 
-use crate::cap_words::ends::InFault;
+use crate::cap_words::byte_io::InFault;
 use crate::cap_words::word::bytes_of;
 
 /// Why a source gave no word.

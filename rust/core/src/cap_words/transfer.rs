@@ -2,7 +2,7 @@
 //! Filling a whole buffer from an input, counting what was read, and writing a whole buffer to an
 //! output.
 
-use crate::cap_words::ends::{ByteIn, ByteOut, InFault, OutFault};
+use crate::cap_words::byte_io::{ByteIn, ByteOut, InFault, OutFault};
 
 /// How many bytes of a buffer were filled, and the fault that came before it was full.
 #[derive(Clone, Copy, Debug, PartialEq, Eq)]

@@ -4,7 +4,7 @@
 #[cfg(feature = "std")]
 use crate::rattle::Vec;
 
-use crate::cap_words::ends::{ByteOut, OutFault};
+use crate::cap_words::byte_io::{ByteOut, OutFault};
 use crate::rattle::alloc::Global;
 
 /// Appends to a vector: all bytes of a call, or nothing if the vector can't grow. A later call may

@@ -67,8 +67,18 @@ fn check_path_line(bytes: &[u8], limits: Limits, refusal: &Refusal, lines: &str)
     let path = refusal.path(bytes, limits);
     assert_eq!(path.is_some(), refusal.pointer.is_some());
     if let Some(path) = path {
-        assert!(lines.starts_with(&format!("  path {path}\n")));
+        assert!(lines.starts_with(&format!("  path {}\n", shown(&path.to_string()))));
     }
+}
+
+/// A path as a line has it: of more than 24 steps the first and the last 8.
+fn shown(path: &str) -> String {
+    let steps: Vec<&str> = path.split('/').skip(1).collect();
+    if steps.len() <= 24 {
+        return path.to_string();
+    }
+    let (first, last) = (steps[..8].join("/"), steps[steps.len() - 8..].join("/"));
+    format!("/{first}/.. {} steps ../{last}", steps.len() - 16)
 }
 
 /// The bytes at the place of the pointer are those of its word.

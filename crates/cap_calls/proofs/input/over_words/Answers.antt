@@ -2,7 +2,7 @@
 use Rattle.cap_spec.proofs.Bytes.Plain.{words_exact}
 use Rattle.cap_spec.proofs.ProofNames.{List, [], ap, arith, length, refl, subst, sum, sym, zero-add, ℕ, ◌/◌, ◌∙◌, ◌∷◌, ◌≡◌, sizes_of}
 use Rattle.cap_spec.proofs.ProofNames.{plain_words}
-use Rattle.cap_vet.specs.Limits.{depth_of, words_of}
+use Rattle.cap_walk.specs.Limits.{depth_of, words_of}
 use Rattle.cap_calls.specs.CallFindings.{extent_found}
 use Rattle.cap_calls.specs.CallInputs.{of_no_words, of_words}
 use Rattle.cap_calls.proofs.input.over_words.Goals as goal

@@ -2,7 +2,7 @@
 use Rattle.cap_spec.proofs.ProofNames.{Bool, List, ap, arith, false, if◌then◌else◌, length, refl, subst, true, ℕ, ◌-◌, ◌<◌}
 use Rattle.cap_spec.proofs.ProofNames.{◌∙◌, ◌≡◌, ◌≤◌, false≢true}
 use Rattle.cap_frame.specs.Framed.{frame_bytes, framed_segments}
-use Rattle.cap_vet.specs.Limits.{words_of}
+use Rattle.cap_walk.specs.Limits.{words_of}
 use Rattle.cap_calls.specs.CallFindings.{trailing_found, without}
 use Rattle.cap_calls.specs.CallNames.{framed, framed_found, reports, trailing, HasFrame, HasTrailing, CallLimits}
 use Rattle.cap_calls.proofs.Answers.{no_cause, one_extent}

@@ -1,6 +1,6 @@
 -- The one segment that is seen is the message.
 use Rattle.cap_spec.proofs.ProofNames.{List, ap, length, refl, subst, sum, sym, ℕ, ◌∙◌, sizes_of}
-use Rattle.cap_vet.specs.Limits.{depth_of, words_of}
+use Rattle.cap_walk.specs.Limits.{depth_of, words_of}
 use Rattle.cap_calls.proofs.over.over_framed.Goals as goal
 
 pub on_one-requires-clause-words : goal.on_one-requires-clause-words

@@ -1,6 +1,6 @@
 -- What is seen is the message.
 use Rattle.cap_spec.proofs.ProofNames.{List, ap, subst, sum, sym, ℕ, ◌∙◌, sizes_of}
-use Rattle.cap_vet.specs.Limits.{depth_of, words_of}
+use Rattle.cap_walk.specs.Limits.{depth_of, words_of}
 use Rattle.cap_calls.proofs.over.over_segments.Goals as goal
 
 pub on-requires : goal.on-requires

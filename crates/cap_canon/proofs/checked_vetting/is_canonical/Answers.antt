@@ -3,9 +3,9 @@ use Rattle.cap_spec.proofs.ProofNames.{List, ℕ, ◌≡◌, false≢true, IsCan
 use Rattle.cap_spec.proofs.Strict.Faults.{within_wider}
 use Rattle.cap_spec.proofs.Verdicts.Refusals.{within_not_refused}
 use Rattle.cap_vet.specs.VetNames.{depth_of, words_of, IsReport}
-use Rattle.cap_vet.specs.Turns.{IsStopped}
-use Rattle.cap_vet.specs.declared.limits.Limits.{Limits}
-use Rattle.cap_vet.specs.declared.walk.turn.Stopped.{Stopped}
+use Rattle.cap_walk.specs.Turns.{IsStopped}
+use Rattle.cap_walk.specs.declared.limits.Limits.{Limits}
+use Rattle.cap_walk.specs.declared.turn.Stopped.{Stopped}
 use Rattle.cap_canon.specs.CanonNames.{Report, IsNotCanonical}
 use Rattle.cap_canon.proofs.checked_vetting.is_canonical.Goals as goal
 
@@ -18,5 +18,5 @@ returns-in-Err-Refused g c =
     let k = c.report-report.ensures.accepted in
     let h = rw c.message.ensures.value at c.in-Err-Refused.ensures.err in (
       λ yes. absurd (false≢true yes),
-      λ canon. absurd (not_stopped _ c.greatest.result _ c.report-report.result k.0 c.greatest.ensures.0 c.greatest.ensures.1 k.1 h canon),
+      λ canon. absurd (not_stopped _ c.greatest.result _ c.report-report.result k.0 c.greatest.ensures.words c.greatest.ensures.depth k.1 h canon),
     )

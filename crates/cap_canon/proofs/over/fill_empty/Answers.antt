@@ -25,44 +25,25 @@ returns-in_default-clause-reports g c =
     let words = layout (trim k.0) in
     no_memory words (has_copy m r k.0 k.1 none) (omega (arith, ap length c.requires.empty, length_plain words)) refl c.requires.empty
 
-pub returns-clause-reports : goal.returns-clause-reports
-returns-clause-reports g c =
-    let k = c.report-report.ensures.accepted in
-    let none = ap (λ q. q.first_cap) c.report-report.ensures.value ∙ c.requires.no_cap in
-    let words = layout (trim k.0) in
-    let new = c.in-Ok.bytes.items in
-    let texts = rw c.message.ensures.value at c.in-Ok.ensures.text in
-    let text : new ≡ plain_text words = texts k.0 _ _ k.1.within.denotes in
-    let long : length new ≡ length (plain_text words) = ap length text in
-    grown words (has_copy _ _ _ k.1 none) (omega (arith, ap length c.requires.empty, length_plain words))
-    (ap Ok (omega (arith, c.len.ensures, long)))
-    (take_all (length (plain_text words)) new (omega (arith, long)) ∙ text) long
-
-pub returns-clause-ok : goal.returns-clause-ok
-returns-clause-ok g c =
+pub returns : goal.returns
+returns g c =
     let m = g.M.Segments.segments (message_of c.args.v.now) in
     let k = c.report-report.ensures.accepted in
-    let none = ap (λ q. q.first_cap) c.report-report.ensures.value ∙ c.requires.no_cap in
+    let made = has_copy _ _ _ k.1 (ap (λ q. q.first_cap) c.report-report.ensures.value ∙ c.requires.no_cap) in
     let words = layout (trim k.0) in
     let new = c.in-Ok.bytes.items in
+    let texts = rw c.message.ensures.value at c.in-Ok.ensures.text in
     let encodes = rw c.message.ensures.value at c.in-Ok.ensures.words in
-    let same : plain_words (take c.len.result new) ≡ words = ap plain_words
-    (take_all c.len.result new (omega (arith, c.len.ensures))) ∙ encodes k.0 _ _ k.1.within.denotes in
-    subst (HasCopy m) (sym same) (has_copy _ _ _ k.1 none)
-
-pub returns-clause-few : goal.returns-clause-few
-returns-clause-few g c =
-    let k = c.report-report.ensures.accepted in
-    let words = layout (trim k.0) in
-    let texts = rw c.message.ensures.value at c.in-Ok.ensures.text in
-    let long = ap length (texts k.0 _ _ k.1.within.denotes) in
-    let same = ap (λ q. q.charge) c.report-report.ensures.value in
-    omega (arith, long, length_plain words, layout_charged _ 0 0 k.0 _ _ k.1.within.denotes, c.len.ensures, same)
-
-pub returns-clause-some : goal.returns-clause-some
-returns-clause-some g c =
-    let k = c.report-report.ensures.accepted in
-    let words = layout (trim k.0) in
-    let texts = rw c.message.ensures.value at c.in-Ok.ensures.text in
-    let long = ap length (texts k.0 _ _ k.1.within.denotes) in
-    omega (arith, long, length_plain words, c.len.ensures)
+    let text : new ≡ plain_text words = texts k.0 _ _ k.1.within.denotes in
+    let long : length new ≡ length (plain_text words) = ap length text in
+    let same : plain_words (take c.len.result new) ≡ words =
+    ap plain_words (take_all c.len.result new (omega (arith, c.len.ensures))) ∙ encodes k.0 _ _ k.1.within.denotes in
+    let charge = ap (λ q. q.charge) c.report-report.ensures.value in
+    record {
+      reports = grown words made (omega (arith, ap length c.requires.empty, length_plain words)) (ap Ok (omega (arith, c.len.ensures, long)))
+          (take_all (length (plain_text words)) new (omega (arith, long)) ∙ text) long;
+      ok = subst (HasCopy m) (sym same) made;
+      within = omega (arith, c.len.ensures);
+      few = omega (arith, long, length_plain words, layout_charged _ 0 0 k.0 _ _ k.1.within.denotes, c.len.ensures, charge);
+      some = omega (arith, long, length_plain words, c.len.ensures);
+    }

@@ -25,8 +25,8 @@ fill_front-words-requires-clause-length g c =
 pub overflow_mul-result : goal.overflow_mul-result
 overflow_mul-result g c = search (rules, layout_charged)
 
-pub returns-clause-reports : goal.returns-clause-reports
-returns-clause-reports g c =
+pub returns : goal.returns
+returns g c =
     let m = g.M.Segments.segments (message_of c.args.v.now) in
     let old = c.args.buffer.now.items in
     let mid = c.make_enough.new.buffer.items in
@@ -35,52 +35,15 @@ returns-clause-reports g c =
     let counts = rw c.message.ensures.value at c.fill_front-words.ensures.count in
     let writes = rw c.message.ensures.value at c.fill_front-words.ensures.words in
     let texts = rw c.message.ensures.value at c.fill_front-words.ensures.text in
+    let makes = c.in_default.ensures.makes in
     let same : length new ≡ length mid = c.fill_front-words.auto.out ∙ ap length c.as_mut_slice.ensures.value in
     let back = written_back _ new mid (c.fill_front-words.auto.out ∙ c.as_mut_slice.ensures.len) in
-    subst (ReportsOver m old (Ok (8 * n))) (sym back) (reports_ok m old mid new n same counts writes texts c.in_default.ensures.makes)
-
-pub returns-clause-ok : goal.returns-clause-ok
-returns-clause-ok g c =
-    let m = g.M.Segments.segments (message_of c.args.v.now) in
-    let old = c.args.buffer.now.items in
-    let mid = c.make_enough.new.buffer.items in
-    let new = c.fill_front-words.new.out in
-    let n = c.fill_front-words.result in
-    let counts = rw c.message.ensures.value at c.fill_front-words.ensures.count in
-    let writes = rw c.message.ensures.value at c.fill_front-words.ensures.words in
-    let texts = rw c.message.ensures.value at c.fill_front-words.ensures.text in
-    let same : length new ≡ length mid = c.fill_front-words.auto.out ∙ ap length c.as_mut_slice.ensures.value in
-    let back = written_back _ new mid (c.fill_front-words.auto.out ∙ c.as_mut_slice.ensures.len) in
-    subst (λ bytes. HasCopy m (plain_words (take (8 * n) bytes))) (sym back) (copy_ok m old mid new n same counts writes texts c.in_default.ensures.makes)
-
-pub returns-clause-within : goal.returns-clause-within
-returns-clause-within g c =
-    let m = g.M.Segments.segments (message_of c.args.v.now) in
-    let old = c.args.buffer.now.items in
-    let mid = c.make_enough.new.buffer.items in
-    let new = c.fill_front-words.new.out in
-    let n = c.fill_front-words.result in
-    let counts = rw c.message.ensures.value at c.fill_front-words.ensures.count in
-    let writes = rw c.message.ensures.value at c.fill_front-words.ensures.words in
-    let texts = rw c.message.ensures.value at c.fill_front-words.ensures.text in
-    let same : length new ≡ length mid = c.fill_front-words.auto.out ∙ ap length c.as_mut_slice.ensures.value in
-    let back = written_back _ new mid (c.fill_front-words.auto.out ∙ c.as_mut_slice.ensures.len) in
-    subst (λ bytes. 8 * n ≤ length bytes) (sym back) (within_ok m old mid new n same counts writes texts c.in_default.ensures.makes)
-
-pub returns-clause-few : goal.returns-clause-few
-returns-clause-few g c = search (rules, layout_charged)
-
-pub returns-clause-kept : goal.returns-clause-kept
-returns-clause-kept g c = search (rules, grows)
-
-pub returns-clause-exact : goal.returns-clause-exact
-returns-clause-exact g c = λ lt.
-    let m = g.M.Segments.segments (message_of c.args.v.now) in
-    let mid = c.make_enough.new.buffer.items in
-    let new = c.fill_front-words.new.out in
-    let counts = rw c.message.ensures.value at c.fill_front-words.ensures.count in
-    let writes = rw c.message.ensures.value at c.fill_front-words.ensures.words in
-    let texts = rw c.message.ensures.value at c.fill_front-words.ensures.text in
-    let same : length new ≡ length mid = c.fill_front-words.auto.out ∙ ap length c.as_mut_slice.ensures.value in
-    let all = grows m c.args.buffer.now.items mid new c.fill_front-words.result same counts writes texts c.in_default.ensures.makes in
-    c.in_default.ensures.exact (omega (arith, lt, all.1 lt)) ∙ all.1 lt
+    let all = grows m old mid new n same counts writes texts makes in
+    record {
+      reports = subst (ReportsOver m old (Ok (8 * n))) (sym back) (reports_ok m old mid new n same counts writes texts makes);
+      ok = subst (λ bytes. HasCopy m (plain_words (take (8 * n) bytes))) (sym back) (copy_ok m old mid new n same counts writes texts makes);
+      within = subst (λ bytes. 8 * n ≤ length bytes) (sym back) (within_ok m old mid new n same counts writes texts makes);
+      few = search (rules, layout_charged);
+      kept = search (rules, grows);
+      exact = λ lt. c.in_default.ensures.exact (omega (arith, lt, all.1 lt)) ∙ all.1 lt;
+    }

@@ -1,6 +1,5 @@
-use Rattle.cap_spec.proofs.ProofNames.{arith, suc, ℕ, ◌+◌, ◌<◌, ◌≡◌, ◌≤◌, HasWord, trim, ap, subst}
-use Rattle.cap_canon.specs.NullTurns.{AreNullTurns}
-use Rattle.cap_canon.proofs.NullRuns.{NullsDue, first_due, first_passed, kept_each, null_each, nulls_due, nulls_on, nulls_passed, rest_in, word_near}
+use Rattle.cap_spec.proofs.ProofNames.{arith, ◌+◌, trim}
+use Rattle.cap_canon.proofs.NullRuns.{first_due, first_passed, kept_each, null_each, nulls_due, nulls_on, nulls_passed, rest_in, word_near}
 use Rattle.cap_canon.proofs.Runs.{second_short}
 use Rattle.cap_canon.proofs.walk.pass_nulls.Goals as goal
 

@@ -3,10 +3,10 @@ use Rattle.cap_spec.proofs.ProofNames.{◌++◌, ◌+◌, ◌∙◌, ◌∷◌, 
 use Rattle.cap_spec.proofs.Trees.OneTree.{one_tree}
 use Rattle.cap_canon.specs.AtRuns.{AtRun}
 use Rattle.cap_canon.specs.CanonNames.{Due, ForTrimmed, IsObject, Object, OptionFull, PointerPlace, first_place, below, own_size}
-use Rattle.cap_canon.specs.CanonNames.{IsWalking, longest_copy, option_places, work_left, CopyRun}
+use Rattle.cap_canon.specs.CanonNames.{IsCopying, longest_copy, option_places, copy_work_left, CopyRun}
 use Rattle.cap_canon.specs.Kept.{Kept}
 use Rattle.cap_canon.specs.NullTurns.{with_first}
-use Rattle.cap_canon.specs.StillToLay.{AreOwed, runs_left}
+use Rattle.cap_canon.specs.StillToLay.{AreOwed, copy_runs_left}
 use Rattle.cap_canon.proofs.Entering.{entered, capacity_above, work_more}
 use Rattle.cap_canon.proofs.Lengths.{own_within}
 use Rattle.cap_canon.proofs.NullRuns.{at_null, null_turn}
@@ -34,9 +34,9 @@ module _ {m : List (List ℕ)} {state : List (List ℕ) → Tree → ℕ → Lis
     -- the runs after it
     walking : (r : Option CopyRun) (now : ℕ) (after : List CopyRun) → now ≡ end + own_size h.at.tree → OptionFull r
         → AreOwed m depth (length runs + 1) (option_places r) (below end h.at.tree) → runs ++ option_to_list r ≡ after
-        → IsWalking m depth after now (below end h.at.tree ++ h.at.due)
+        → IsCopying m depth after now (below end h.at.tree ++ h.at.due)
     walking r now after e full owed same =
-        subst (λ fs. IsWalking m depth fs now (below end h.at.tree ++ h.at.due)) same
+        subst (λ fs. IsCopying m depth fs now (below end h.at.tree ++ h.at.due)) same
         (entered m depth end now p h.at.tree h.at.due runs r object h.met e full owed)
 
     kept_on : (new old first : Tree → Kept) → new (trim h.at.root) ≡ old (trim h.at.root) → ForTrimmed m (λ u. old u ≡ first u)
@@ -96,7 +96,7 @@ returns-then-not-go_on-2-clause-done g c =
     let h = turn_here c.object_at-object.result w.invariant.at on.rest on.is_rest c.object_at-object.ensures in
     let e = ap (λ n. w.end + n) (c.own_words-end.ensures _ h.met.d w.run.segment w.run.at h.at.tree h.met.is) in
     let owed = c.run_of-below.ensures.owed _ h.met.d w.run.segment w.run.at c.args.depth _ h.at.tree h.met.is h.met.levels in
-    let none = on.runs ∙ ap (λ b. runs_left b c.go_on-in-walk.new.stack.items c.go_on-in-walk.new.run) c.if-not-go_on-2.true in
+    let none = on.runs ∙ ap (λ b. copy_runs_left b c.go_on-in-walk.new.stack.items c.go_on-in-walk.new.run) c.if-not-go_on-2.true in
     last_turn (g.P.Pass.state w.pass) (g.P.Pass.state c.visit.new.self) h.at e
     (walking h c.run_of-below.result _ [] e c.run_of-below.ensures.full owed none)
     (c.visit.ensures.goes_on (trim h.at.root) h.at.tree h.at.due h.turn h.at.so_far)
@@ -114,13 +114,13 @@ walk-smaller g c =
     let h = turn_here c.object_at-object.result w.invariant.at on.rest on.is_rest c.object_at-object.ensures in
     let runs = w.stack.items ++ option_to_list on.rest in
     let new = c.go_on-in-walk.new in
-    let same = on.runs ∙ ap (λ b. runs_left b new.stack.items new.run) c.if-not-go_on-2.false in
+    let same = on.runs ∙ ap (λ b. copy_runs_left b new.stack.items new.run) c.if-not-go_on-2.false in
     let e = c.own_words-end.ensures _ h.met.d w.run.segment w.run.at h.at.tree h.met.is in
     let owed = c.run_of-below.ensures.owed _ h.met.d w.run.segment w.run.at h.met.d 0 h.at.tree h.met.is (omega arith) in
     let more = work_more _ h.met.d w.run.segment w.run.at w.end h.at.tree c.object_at-object.result runs
     c.run_of-below.result h.met.is owed in
-    let less = subst (λ (fs : List CopyRun). work_left fs ≤ work_left runs + own_size h.at.tree) same more in
-    rw e (work_falls (work_left (w.stack.items ++ w.run ∷ [])) (work_left runs) (work_left (new.stack.items ++ new.run ∷ [])) w.end longest_copy
+    let less = subst (λ (fs : List CopyRun). copy_work_left fs ≤ copy_work_left runs + own_size h.at.tree) same more in
+    rw e (work_falls (copy_work_left (w.stack.items ++ w.run ∷ [])) (copy_work_left runs) (copy_work_left (new.stack.items ++ new.run ∷ [])) w.end longest_copy
     (own_size h.at.tree) (next_work w.stack.items w.run on.rest on.is_rest) less (within h))
 
 pub walk-preserved : goal.walk-preserved
@@ -131,7 +131,7 @@ walk-preserved g c =
     let e = ap (λ n. w.end + n) (c.own_words-end.ensures _ h.met.d w.run.segment w.run.at h.at.tree h.met.is) in
     let owed = c.run_of-below.ensures.owed _ h.met.d w.run.segment w.run.at c.args.depth _ h.at.tree h.met.is h.met.levels in
     let new = c.go_on-in-walk.new in
-    let same = on.runs ∙ ap (λ b. runs_left b new.stack.items new.run) c.if-not-go_on-2.false in record {
+    let same = on.runs ∙ ap (λ b. copy_runs_left b new.stack.items new.run) c.if-not-go_on-2.false in record {
       at = next_run _ (g.P.Pass.state w.pass) (g.P.Pass.state c.visit.new.self) _ _ new.stack.items _ _ _ new.run h.at e
           (walking h c.run_of-below.result _ (new.stack.items ++ new.run ∷ []) e c.run_of-below.ensures.full owed same)
           (c.visit.ensures.goes_on (trim h.at.root) h.at.tree h.at.due h.turn h.at.so_far);
@@ -158,7 +158,7 @@ returns-then-not-go_on-clause-done g c =
     let k = (c.pass_nulls.ensures.goes_on c.args.depth w.end w.stack.items w.invariant.at).0 in
     let h = null_turn k c.pass_nulls.ensures.null on.rest on.is_rest in
     let e : w.end ≡ w.end + own_size h.at.tree = omega (arith, ap own_size h.met.is) in
-    let none = on.runs ∙ ap (λ b. runs_left b c.go_on.new.stack.items c.go_on.new.run) c.if-not-go_on.true in
+    let none = on.runs ∙ ap (λ b. copy_runs_left b c.go_on.new.stack.items c.go_on.new.run) c.if-not-go_on.true in
     last_turn (with_first (g.P.Pass.state c.pass_nulls.new.pass)) (g.P.Pass.state c.pass_nulls.new.pass) h.at e
     (walking h None _ [] e tt (rw h.met.is tt) none)
     (at_null (g.P.Pass.state c.pass_nulls.new.pass (g.M.Segments.segments c.args.message.now) (trim h.at.root)) h.at.tree w.end h.at.due h.met.is h.at.so_far)
@@ -176,7 +176,7 @@ walk-preserved-then-leads_to_null g c =
     let h = null_turn k c.pass_nulls.ensures.null on.rest on.is_rest in
     let e : w.end ≡ w.end + own_size h.at.tree = omega (arith, ap own_size h.met.is) in
     let new = c.go_on.new in
-    let same = on.runs ∙ ap (λ b. runs_left b new.stack.items new.run) c.if-not-go_on.false in record {
+    let same = on.runs ∙ ap (λ b. copy_runs_left b new.stack.items new.run) c.if-not-go_on.false in record {
       at = next_run _ (with_first (g.P.Pass.state c.pass_nulls.new.pass)) (g.P.Pass.state c.pass_nulls.new.pass) _ _ new.stack.items _ _ _ new.run h.at e
           (walking h None _ (new.stack.items ++ new.run ∷ []) e tt (rw h.met.is tt) same)
           (at_null (g.P.Pass.state c.pass_nulls.new.pass (g.M.Segments.segments c.args.message.now) (trim h.at.root)) h.at.tree w.end h.at.due h.met.is h.at.so_far);
@@ -190,7 +190,7 @@ walk-smaller-then-leads_to_null g c =
     let past = (c.pass_nulls.ensures.goes_on c.args.depth w.end w.stack.items w.invariant.at).1 in
     let new = c.go_on.new in
     let runs = w.stack.items ++ option_to_list on.rest in
-    let left = on.runs ∙ ap (λ b. runs_left b new.stack.items new.run) c.if-not-go_on.false in
+    let left = on.runs ∙ ap (λ b. copy_runs_left b new.stack.items new.run) c.if-not-go_on.false in
     let same : runs ≡ new.stack.items ++ new.run ∷ [] = subst (λ fs. fs ≡ new.stack.items ++ new.run ∷ []) (append-nil runs) left in
     let less = next_work w.stack.items c.pass_nulls.new.run on.rest on.is_rest in
-    let e = ap work_left same in omega (arith, past, less, e)
+    let e = ap copy_work_left same in omega (arith, past, less, e)

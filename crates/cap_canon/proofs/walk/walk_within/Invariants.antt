@@ -1,5 +1,5 @@
 use Rattle.std.proofs.Common.{[], ◌++◌, ◌+◌, ◌-◌, ◌∷◌, ◌≡◌}
-use Rattle.cap_canon.specs.CanonNames.{ForTrimmed, longest_copy, work_left}
+use Rattle.cap_canon.specs.CanonNames.{ForTrimmed, longest_copy, copy_work_left}
 use Rattle.cap_canon.specs.AtRuns.{AtRun}
 use Rattle.cap_canon.proofs.walk.walk_within.Given as goal
 
@@ -10,4 +10,4 @@ invariant-walk g l = record {
 }
 
 abbrev pub decreases-walk : goal.decreases-walk
-decreases-walk g l = work_left (l.stack.items ++ l.run ∷ []) + (longest_copy - l.end)
+decreases-walk g l = copy_work_left (l.stack.items ++ l.run ∷ []) + (longest_copy - l.end)

@@ -1,5 +1,5 @@
 use Rattle.cap_spec.proofs.ProofNames.{Some, ap}
-use Rattle.cap_vet.proofs.OneReport.{not_both_within}
+use Rattle.cap_walk.proofs.OneReport.{not_both_within}
 use Rattle.cap_difference.proofs.Copied.{found_canonical}
 use Rattle.cap_difference.proofs.Found.{found_names, none_left, some_found}
 use Rattle.cap_difference.proofs.OneDifference.{one_difference}
@@ -8,7 +8,7 @@ use Rattle.cap_difference.proofs.difference.first_difference.Goals as goal
 pub unreachable-requires : goal.unreachable-requires
 unreachable-requires g c =
     let h = rw c.message-message.ensures.value at c.in-Err-Refused.ensures.err in
-    not_both_within _ 268435456 256 c.greatest.ensures.0 c.greatest.ensures.1 c.report-report.ensures.accepted (rw c.in-Err-Refused.field-0-is at h)
+    not_both_within _ 268435456 256 c.greatest.ensures.words c.greatest.ensures.depth c.report-report.ensures.accepted (rw c.in-Err-Refused.field-0-is at h)
 
 pub returns-in-Ok-clause-some : goal.returns-in-Ok-clause-some
 returns-in-Ok-clause-some g c =

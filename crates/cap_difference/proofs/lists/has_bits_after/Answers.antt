@@ -1,8 +1,15 @@
-use Rattle.cap_spec.proofs.ProofNames.{refl, subst, sym, ◌%◌, ◌*◌, ◌/◌, ◌^◌, ◌∙◌, ◌≡◌, ◌≢◌}
+use Rattle.cap_spec.proofs.ProofNames.{refl, subst, sym, ◌%◌, ◌*◌, ◌/◌, ◌^◌, ◌∙◌, ◌≡◌, ◌≢◌, IsTrue, ap, ne_eqb, not, ℕ}
 use Rattle.cap_difference.specs.Reasons.{last_bits}
-use Rattle.cap_difference.proofs.Bits.{isnt_zero, zero_isnt}
 use Rattle.cap_spec.proofs.Lemmas.{one_word}
+use Rattle.std.proofs.Common.{nat_eq}
 use Rattle.cap_difference.proofs.lists.has_bits_after.Goals as goal
+
+-- Whether a number isn't zero.
+isnt_zero : (x : ℕ) → IsTrue (not (nat_eq x 0)) → x ≢ 0
+isnt_zero x h z = let k = subst (λ u. IsTrue (not (nat_eq u 0))) z h in cc
+
+zero_isnt : (x : ℕ) → x ≢ 0 → IsTrue (not (nat_eq x 0))
+zero_isnt x n = ap not (ne_eqb x 0 n)
 
 pub returns : goal.returns
 returns g c =

@@ -1,4 +1,4 @@
-use Rattle.cap_vet.specs.Limits.{depth_of, words_of}
+use Rattle.cap_walk.specs.Limits.{depth_of, words_of}
 use Rattle.cap_explain.proofs.Charges.{no_charge}
 use Rattle.cap_explain.proofs.charge.charge_of.Goals as goal
 

@@ -9,5 +9,5 @@ returns-clause-refused c = λ demands m words depth fault path k h. true_reason 
 
 pub returns-clause-overlap : goal.returns-clause-overlap
 returns-clause-overlap c = λ m words depth s w pointers path start h.
-    true_lines m words depth s w Overlap (path_lines path) (record { words = 0; depth = 0; charge = None; has_table = true; start = start })
+    true_lines m words depth s w Overlap (path_lines path) (record { words = 0; depth = 0; charge = None; cycle = None; has_table = true; start = start })
     (true_overlap m words depth s w pointers h)

@@ -11,7 +11,7 @@ returns-clause-items c =
     let need = name ++ decimal (needed c.args.tag) in
     let size = has ++ decimal (list_size c.args.word) in
     let first : c.push_named.new.self ≡ old ++ need =
-    c.push_named.ensures.items ∙ ap (λ d. old ++ (name ++ decimal d)) c.needed.ensures in
+    c.push_named.ensures.items ∙ ap (λ d. old ++ (name ++ decimal d)) c.words_of_elements.ensures in
     let second : c.push_named-2.new.self ≡ c.push_named.new.self ++ size =
     c.push_named-2.ensures.items ∙ ap (λ d. c.push_named.new.self ++ (has ++ decimal d)) (c.from.ensures ∙ c.list_size.ensures) in
     then old c.push_named-2.new.self c.push_text.new.self (need ++ size) (10 ∷ [])

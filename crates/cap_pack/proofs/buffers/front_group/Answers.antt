@@ -3,40 +3,18 @@ use Rattle.cap_spec.proofs.ProofNames.{ap, arith, filter, length, not, ◌==◌,
 use Rattle.cap_pack.proofs.GroupTexts.{full_front, marked_front, tag_full, tag_other, tag_zero, zeros_front}
 use Rattle.cap_pack.proofs.buffers.front_group.Goals as goal
 
-pub returns-in-0-clause-size : goal.returns-in-0-clause-size
-returns-in-0-clause-size c =
-    let zero = tag_zero c.args.bytes.now c.word_at-word.result c.tag_of_word-tag.result c.word_at-word.ensures (omega (arith, c.word_at-word.type_inv))
-    c.tag_of_word-tag.ensures c.in-0.is in
-    (zeros_front c.args.bytes.now _ c.zero_words.result c.requires (take_rest c.args.bytes.now 8) zero c.zero_words.ensures).size
-
-pub returns-in-0-clause-within : goal.returns-in-0-clause-within
-returns-in-0-clause-within c =
+pub returns-in-0 : goal.returns-in-0
+returns-in-0 c =
     let zero = tag_zero c.args.bytes.now c.word_at-word.result c.tag_of_word-tag.result c.word_at-word.ensures (omega (arith, c.word_at-word.type_inv))
     c.tag_of_word-tag.ensures c.in-0.is in
     let front = zeros_front c.args.bytes.now _ c.zero_words.result c.requires (take_rest c.args.bytes.now 8) zero c.zero_words.ensures in
-    (omega arith, omega (arith, front.most), front.within)
+    record { size = front.size; within = (omega arith, omega (arith, front.most), front.within); encoded = front.text; few = omega arith }
 
-pub returns-in-0-clause-encoded : goal.returns-in-0-clause-encoded
-returns-in-0-clause-encoded c =
-    let zero = tag_zero c.args.bytes.now c.word_at-word.result c.tag_of_word-tag.result c.word_at-word.ensures (omega (arith, c.word_at-word.type_inv))
-    c.tag_of_word-tag.ensures c.in-0.is in
-    (zeros_front c.args.bytes.now _ c.zero_words.result c.requires (take_rest c.args.bytes.now 8) zero c.zero_words.ensures).text
-
-pub returns-in-255-clause-size : goal.returns-in-255-clause-size
-returns-in-255-clause-size c =
-    let full = tag_full c.args.bytes.now c.word_at-word.result c.tag_of_word-tag.result c.word_at-word.ensures c.tag_of_word-tag.ensures c.in-255.is in
-    (full_front c.args.bytes.now _ c.full_words-more.result c.requires (take_rest c.args.bytes.now 8) full c.full_words-more.ensures).size
-
-pub returns-in-255-clause-within : goal.returns-in-255-clause-within
-returns-in-255-clause-within c =
+pub returns-in-255 : goal.returns-in-255
+returns-in-255 c =
     let full = tag_full c.args.bytes.now c.word_at-word.result c.tag_of_word-tag.result c.word_at-word.ensures c.tag_of_word-tag.ensures c.in-255.is in
     let front = full_front c.args.bytes.now _ c.full_words-more.result c.requires (take_rest c.args.bytes.now 8) full c.full_words-more.ensures in
-    (omega arith, omega (arith, front.most), front.within)
-
-pub returns-in-255-clause-encoded : goal.returns-in-255-clause-encoded
-returns-in-255-clause-encoded c =
-    let full = tag_full c.args.bytes.now c.word_at-word.result c.tag_of_word-tag.result c.word_at-word.ensures c.tag_of_word-tag.ensures c.in-255.is in
-    (full_front c.args.bytes.now _ c.full_words-more.result c.requires (take_rest c.args.bytes.now 8) full c.full_words-more.ensures).text
+    record { size = front.size; within = (omega arith, omega (arith, front.most), front.within); encoded = front.text; few = omega arith }
 
 pub returns-in_default-clause-size : goal.returns-in_default-clause-size
 returns-in_default-clause-size c =

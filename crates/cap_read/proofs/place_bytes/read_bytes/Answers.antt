@@ -3,7 +3,7 @@ use Rattle.cap_spec.proofs.ProofNames.{Err, List, MatchOption, ap, subst, â„•, â
 use Rattle.cap_frame.specs.Bytes.{cut}
 use Rattle.cap_frame.specs.declared.byte_message.ByteView.{ByteView}
 use Rattle.cap_vet.specs.Views.{bytes_of_place, node_spot, view_place}
-use Rattle.cap_vet.specs.declared.nodes.place.Place.{Place}
+use Rattle.cap_ptr.specs.declared.place.Place.{Place}
 use Rattle.cap_read.proofs.Placing.{bytes_there, no_bytes_there, no_place}
 use Rattle.cap_read.proofs.place_bytes.read_bytes.Goals as goal
 

@@ -1,7 +1,7 @@
 use Rattle.cap_spec.proofs.ProofNames.{Err, IfSome, MatchOption, None, Some, ap, length, subst, ℕ, ◌+◌, ◌<◌, ◌∙◌, ◌≡◌, ◌≤◌}
 use Rattle.cap_spec.proofs.ProofNames.{Denotes, segment_of, HasPlace, ReachesSpot, Spot, own_of, DenotesAt, Tree, node_at}
 use Rattle.cap_vet.specs.Views.{node_spot, shown, view_place}
-use Rattle.cap_vet.specs.declared.nodes.place.Place.{Place}
+use Rattle.cap_ptr.specs.declared.place.Place.{Place}
 use Rattle.cap_read.proofs.Placing.{node_read, nothing_read}
 use Rattle.cap_read.proofs.reading.read.Goals as goal
 

@@ -3,7 +3,7 @@
 
 use capvet_core::rattle::Vec;
 
-use crate::cap_run::engines::stream::end_stream;
+use crate::cap_run::engines::reading::{end_stream, no_break};
 use crate::cap_run::fault::output_fault;
 use crate::cap_run::settings::{Outcome, Settings};
 use crate::cap_run::waiting::{flush_sink, FlushNever, Flushing, AHEAD};
@@ -134,7 +134,8 @@ fn put_copies<S: WordSource, K: WordSink, F: Flushing<S>>(
             Err(cause) => return (number, Err(cause)),
         }
     }
-    (settings.messages, end_stream(source, settings.size))
+    let end = end_stream(source, settings.size, &mut no_break(false));
+    (settings.messages, end)
 }
 
 /// Whether the output didn't fail, so that the sink has still to be finished.

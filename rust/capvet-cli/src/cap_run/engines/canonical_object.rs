@@ -3,10 +3,9 @@
 
 use crate::cap_run::engines::differing::{counted_by, find_difference};
 use crate::cap_run::engines::explain::filter_refusal;
-use crate::cap_run::engines::explained::reason_lines;
-use crate::cap_run::engines::sentence::last_reason;
+use crate::cap_run::engines::sentence::{last_reason, reason_lines};
 use crate::cap_run::engines::stream::Counted;
-use crate::cap_run::engines::whole::after_text;
+use crate::cap_run::engines::vetting::after_text;
 use crate::cap_text::{write_canonical_json, write_filtered_end, write_object_end, Cause, Page};
 use capvet_core::cap_difference::{first_difference, Difference};
 use capvet_core::cap_explain::difference_sentence;

@@ -2,7 +2,8 @@
 //! The engine that writes for each message whether it is canonical.
 
 use crate::cap_run::engines::stream::Counted;
-use crate::cap_run::engines::whole::{after_text, judge_all, Judge};
+use crate::cap_run::engines::vetting::after_text;
+use crate::cap_run::engines::whole::{print_messages, MessagePrinter};
 use crate::cap_run::settings::{Outcome, Settings};
 use crate::cap_run::waiting::{FlushNever, Flushing};
 use crate::cap_text::{write_check, write_refused, Cause, Page, RunFault};
@@ -20,11 +21,12 @@ struct Checking {
     demands: Demands,
 }
 
-impl Judge for Checking {
-    fn judge<M: Segments, O: ByteOut>(
+impl MessagePrinter for Checking {
+    fn print_message<M: Segments, O: ByteOut>(
         &self,
         page: &mut Page,
         out: &mut O,
+        _before: u64,
         number: u32,
         message: &M,
     ) -> Result<Counted, Cause> {
@@ -105,5 +107,5 @@ pub fn run_check_with<S: WordSource, O: ByteOut, F: Flushing<S>>(
         limits: settings.limits,
         demands,
     };
-    judge_all(alloc, source, out, settings, checking, flushing)
+    print_messages(alloc, source, out, settings, checking, flushing)
 }

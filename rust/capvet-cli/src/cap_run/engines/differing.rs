@@ -1,7 +1,6 @@
 // crates/cap_run/src/engines/differing.rt without its contracts, by tools/erase: that text is proved, this one is only tested.
 //! The text of an accepted message on whether it is canonical, and why not.
 
-use crate::cap_run::engines::explain::greatest_limits;
 use crate::cap_run::engines::passing::write_more;
 use crate::cap_run::engines::stream::Counted;
 use crate::cap_text::{write_difference, Page};
@@ -9,7 +8,13 @@ use capvet_core::cap_difference::{Difference, DifferenceReason};
 use capvet_core::cap_explain::{explain_difference, Explanation, MessageStart};
 use capvet_core::cap_frame::Segments;
 use capvet_core::cap_trace::NamedPath;
+use capvet_core::cap_vet::Limits;
 use capvet_core::cap_words::{ByteOut, OutFault};
+
+/// The greatest limits.
+pub(crate) fn greatest_limits() -> Limits {
+    Limits::greatest()
+}
 
 /// What is counted of an accepted message by its first difference.
 pub(crate) fn counted_by(difference: &Option<Difference>) -> Counted {

@@ -2,12 +2,12 @@
 //! The engine that writes the tree of each message.
 
 use crate::cap_run::engines::stream::Counted;
-use crate::cap_run::engines::whole::{after_text, vet_all, Printer};
+use crate::cap_run::engines::vetting::{after_text, vet_all, AcceptedPrinter};
 use crate::cap_run::settings::{Outcome, Settings};
 use crate::cap_run::waiting::{FlushNever, Flushing};
 use crate::cap_text::{write_tree, Cause, Page, RunFault};
 use capvet_core::cap_frame::Segments;
-use capvet_core::cap_vet::{Demands, Vetted};
+use capvet_core::cap_vet::{Demands, Limits, Vetted};
 use capvet_core::cap_words::{ByteOut, WordSource};
 use capvet_core::rattle::alloc::Global;
 
@@ -15,13 +15,15 @@ use capvet_core::rattle::alloc::Global;
 #[derive(Clone, Copy)]
 struct DumpPrinter;
 
-impl Printer for DumpPrinter {
-    fn print<M: Segments, O: ByteOut>(
+impl AcceptedPrinter for DumpPrinter {
+    fn print_accepted<M: Segments, O: ByteOut>(
         &self,
         page: &mut Page,
         out: &mut O,
+        _before: u64,
         number: u32,
         vetted: &Vetted<'_, M>,
+        _limits: Limits,
     ) -> Result<Counted, Cause> {
         after_text(write_tree(page, out, number, vetted), Counted::Accepted)
     }

@@ -1,55 +1,15 @@
 // crates/cap_run/src/engines/exclusive.rt without its contracts, by tools/erase: that text is proved, this one is only tested.
 //! The engine that writes for each message whether it is accepted and uses no word twice.
 
-use crate::cap_run::engines::stream::Counted;
-use crate::cap_run::engines::whole::{after_text, judge_all, Judge};
+use crate::cap_run::engines::vet::VetPrinter;
+use crate::cap_run::engines::vetting::{ExclusiveVetting, RefusalLines};
+use crate::cap_run::engines::whole::print_messages;
 use crate::cap_run::settings::{Outcome, Settings};
 use crate::cap_run::waiting::{FlushNever, Flushing};
-use crate::cap_text::{write_accepted, write_overlap, write_refused, Cause, Page, RunFault};
-use capvet_core::cap_frame::Segments;
-use capvet_core::cap_vet::{vet_exclusive, Demands, ExclusiveRefusal, Limits};
+use crate::cap_text::{Cause, RunFault};
+use capvet_core::cap_vet::Demands;
 use capvet_core::cap_words::{ByteOut, WordSource};
 use capvet_core::rattle::alloc::Global;
-
-/// Vets a message under demands, and writes the numbers of its tree if it meets them and uses no word
-/// twice. Otherwise it writes the first reason why not, or the first pointer that overlaps.
-#[derive(Clone, Copy)]
-struct ExclusiveVetting {
-    alloc: Global,
-    limits: Limits,
-    demands: Demands,
-}
-
-impl Judge for ExclusiveVetting {
-    fn judge<M: Segments, O: ByteOut>(
-        &self,
-        page: &mut Page,
-        out: &mut O,
-        number: u32,
-        message: &M,
-    ) -> Result<Counted, Cause> {
-        match vet_exclusive(self.alloc, message, self.limits, self.demands) {
-            Ok(exclusive) => {
-                let report = exclusive.into_vetted().report();
-                let written = write_accepted(page, out, number, &report);
-                after_text(written, Counted::Accepted)
-            }
-            Err(ExclusiveRefusal::Refused(refusal)) => {
-                let written = write_refused(page, out, number, &refusal);
-                after_text(written, Counted::Refused)
-            }
-            Err(ExclusiveRefusal::Overlap {
-                segment,
-                word,
-                pointers,
-            }) => {
-                let written = write_overlap(page, out, number, segment, word, pointers);
-                after_text(written, Counted::Refused)
-            }
-            Err(ExclusiveRefusal::Memory) => Err(Cause::Memory),
-        }
-    }
-}
 
 /// Does what [`run_vet_exclusive_with`] does, without demands and without a flush: a message is
 /// accepted if its root denotes a finite tree within `settings.limits` and it uses no word twice.
@@ -114,6 +74,8 @@ pub fn run_vet_exclusive_with<S: WordSource, O: ByteOut, F: Flushing<S>>(
         alloc,
         limits: settings.limits,
         demands,
+        accepted: VetPrinter,
+        refused: RefusalLines,
     };
-    judge_all(alloc, source, out, settings, vetting, flushing)
+    print_messages(alloc, source, out, settings, vetting, flushing)
 }

@@ -1,12 +1,12 @@
 // crates/cap_run/src/engines/explain.rt without its contracts, by tools/erase: that text is proved, this one is only tested.
 //! The engines that write for each message whether it is accepted, and explain each refusal.
 
-use crate::cap_run::engines::differing::{counted_by, write_difference_lines};
-use crate::cap_run::engines::explaining::{explain_all, PlacedJudge};
+use crate::cap_run::engines::differing::{counted_by, greatest_limits, write_difference_lines};
 use crate::cap_run::engines::passing::write_more;
 use crate::cap_run::engines::stream::Counted;
 use crate::cap_run::engines::vet::VetPrinter;
-use crate::cap_run::engines::whole::{after_text, Printer};
+use crate::cap_run::engines::vetting::{after_text, AcceptedPrinter};
+use crate::cap_run::engines::whole::{explain_messages, MessagePrinter};
 use crate::cap_run::settings::{ExplainSettings, Outcome};
 use crate::cap_run::waiting::Flushing;
 use crate::cap_text::{
@@ -14,7 +14,8 @@ use crate::cap_text::{
 };
 use capvet_core::cap_difference::first_difference;
 use capvet_core::cap_explain::{
-    explain, explain_earlier, explain_overlap, refusal_charge, Explanation, MessageStart, Numbers,
+    cycle_level, explain, explain_earlier, explain_overlap, numbers_of, Explanation, MessageStart,
+    Numbers,
 };
 use capvet_core::cap_frame::Segments;
 use capvet_core::cap_spec::StrictRefusal;
@@ -22,14 +23,6 @@ use capvet_core::cap_trace::{EarlierPointer, NamedPath};
 use capvet_core::cap_vet::{limits_under, vet_with, Demands, ExclusiveRefusal, Limits, Vetted};
 use capvet_core::cap_words::{ByteOut, OutFault, WordSource};
 use capvet_core::rattle::alloc::Global;
-
-/// The greatest limits.
-pub(crate) fn greatest_limits() -> Limits {
-    match Limits::new(268435456, 256) {
-        Some(limits) => limits,
-        None => unreachable!(),
-    }
-}
 
 /// Where a message begins before which there are this many words of an input.
 fn start_after(packed: bool, before: u64) -> MessageStart {
@@ -39,28 +32,13 @@ fn start_after(packed: bool, before: u64) -> MessageStart {
     }
 }
 
-/// The numbers of a message that is refused within limits, and begins there in the input.
-fn numbers_of<M: Segments>(
-    message: &M,
-    refusal: &StrictRefusal,
-    limits: Limits,
-    start: Option<MessageStart>,
-) -> Numbers {
-    Numbers {
-        words: limits.words(),
-        depth: limits.depth(),
-        charge: refusal_charge(message, refusal, limits),
-        has_table: true,
-        start,
-    }
-}
-
 /// Writes the lines that explain why a message that begins at `start` doesn't meet demands, after a
-/// text that isn't empty.
+/// text that isn't empty. They have this level of a cycle.
 fn write_explanation<M: Segments, O: ByteOut>(
     out: &mut O,
     message: &M,
     refusal: &StrictRefusal,
+    cycle: Option<u32>,
     limits: Limits,
     demands: Demands,
     start: MessageStart,
@@ -68,7 +46,7 @@ fn write_explanation<M: Segments, O: ByteOut>(
     let mut path = NamedPath::new();
     path.find_refused(message, limits, refusal);
     let within = limits_under(message, limits, demands);
-    let numbers = numbers_of(message, refusal, within, Some(start));
+    let numbers = numbers_of(message, refusal, cycle, within, true, Some(start));
     let mut lines = Explanation::new();
     explain(&mut lines, message, refusal, numbers, path.steps());
     write_more(out, lines.text())
@@ -102,7 +80,10 @@ fn write_filter_lines<M: Segments, O: ByteOut>(
 ) -> Result<(), OutFault> {
     match refusal {
         Some(refusal) => match write_filtered(page, out, refusal) {
-            Ok(()) => write_explanation(out, message, refusal, limits, filter_demands(), start),
+            // The message is accepted, so it is within the depth limit.
+            Ok(()) => {
+                write_explanation(out, message, refusal, None, limits, filter_demands(), start)
+            }
             Err(fault) => Err(fault),
         },
         None => Ok(()),
@@ -173,42 +154,6 @@ fn write_both_pointers<M: Segments, O: ByteOut>(
     }
 }
 
-/// What an engine that explains writes about an accepted message, before which it knows how many words
-/// of the input are.
-trait PlacedPrinter {
-    /// Writes the text of an accepted message. What the page held before isn't written.
-    ///
-    /// # Errors
-    ///
-    /// - [`Cause::Output`]: the output failed. It took a prefix of the text.
-    /// - [`Cause::Memory`]: an allocation failed. The output took nothing.
-    fn print<M: Segments, O: ByteOut>(
-        &self,
-        page: &mut Page,
-        out: &mut O,
-        before: u64,
-        number: u32,
-        vetted: &Vetted<'_, M>,
-    ) -> Result<Counted, Cause>;
-}
-
-/// Writes the numbers of an accepted message's tree.
-#[derive(Clone, Copy)]
-struct AcceptedPrinter;
-
-impl PlacedPrinter for AcceptedPrinter {
-    fn print<M: Segments, O: ByteOut>(
-        &self,
-        page: &mut Page,
-        out: &mut O,
-        _before: u64,
-        number: u32,
-        vetted: &Vetted<'_, M>,
-    ) -> Result<Counted, Cause> {
-        VetPrinter.print(page, out, number, vetted)
-    }
-}
-
 /// Writes the numbers of an accepted message's tree if the message uses no word twice. Otherwise it
 /// explains the first pointer that overlaps.
 #[derive(Clone, Copy)]
@@ -217,14 +162,15 @@ struct OverlapPrinter {
     packed: bool,
 }
 
-impl PlacedPrinter for OverlapPrinter {
-    fn print<M: Segments, O: ByteOut>(
+impl AcceptedPrinter for OverlapPrinter {
+    fn print_accepted<M: Segments, O: ByteOut>(
         &self,
         page: &mut Page,
         out: &mut O,
         before: u64,
         number: u32,
         vetted: &Vetted<'_, M>,
+        _limits: Limits,
     ) -> Result<Counted, Cause> {
         match vetted.into_exclusive(self.alloc) {
             Ok(_) => {
@@ -268,7 +214,7 @@ struct Explaining<T> {
     printer: T,
 }
 
-impl<T: PlacedPrinter> Explaining<T> {
+impl<T: AcceptedPrinter> Explaining<T> {
     /// Writes the line of a message that doesn't meet the demands, and the lines that explain why.
     fn write_refusal<M: Segments, O: ByteOut>(
         &self,
@@ -279,10 +225,19 @@ impl<T: PlacedPrinter> Explaining<T> {
         message: &M,
         refusal: &StrictRefusal,
     ) -> Result<(), OutFault> {
+        let cycle = cycle_level(message, refusal, self.limits);
         match write_refused(page, out, number, refusal) {
             Ok(()) => {
                 let start = start_after(self.packed, before);
-                write_explanation(out, message, refusal, self.limits, self.demands, start)
+                write_explanation(
+                    out,
+                    message,
+                    refusal,
+                    cycle,
+                    self.limits,
+                    self.demands,
+                    start,
+                )
             }
             Err(fault) => Err(fault),
         }
@@ -299,7 +254,10 @@ impl<T: PlacedPrinter> Explaining<T> {
         vetted: &Vetted<'_, M>,
     ) -> Result<Counted, Cause> {
         let refusal = filter_refusal(vetted.message(), self.limits);
-        match self.printer.print(page, out, before, number, vetted) {
+        match self
+            .printer
+            .print_accepted(page, out, before, number, vetted, self.limits)
+        {
             Ok(Counted::Accepted) => {
                 let start = start_after(self.packed, before);
                 let message = vetted.message();
@@ -355,8 +313,8 @@ impl<T: PlacedPrinter> Explaining<T> {
     }
 }
 
-impl<T: PlacedPrinter> PlacedJudge for Explaining<T> {
-    fn judge<M: Segments, O: ByteOut>(
+impl<T: AcceptedPrinter> MessagePrinter for Explaining<T> {
+    fn print_message<M: Segments, O: ByteOut>(
         &self,
         page: &mut Page,
         out: &mut O,
@@ -376,7 +334,7 @@ impl<T: PlacedPrinter> PlacedJudge for Explaining<T> {
 
 /// Does what [`run_vet_with`](crate::run_vet_with) does, and explains each refusal. After the line of
 /// a refused message come lines with the path to its pointer, the pointer word and where it leads,
-/// what is exceeded, and the reason as a sentence.
+/// what is exceeded, whether the path returns to that word, and the reason as a sentence.
 ///
 /// If `settings.canonical` says so, a line on whether it is canonical comes after the text of an
 /// accepted message, with the first difference from its canonical copy and the lines that explain
@@ -399,9 +357,9 @@ pub fn run_explain<S: WordSource, O: ByteOut, F: Flushing<S>>(
         demands,
         packed: settings.packed,
         canonical: settings.canonical,
-        printer: AcceptedPrinter,
+        printer: VetPrinter,
     };
-    explain_all(alloc, source, out, settings, explaining, flushing)
+    explain_messages(alloc, source, out, settings, explaining, flushing)
 }
 
 /// Does what [`run_vet_exclusive_with`](crate::run_vet_exclusive_with) does, and explains each
@@ -429,5 +387,5 @@ pub fn run_explain_exclusive<S: WordSource, O: ByteOut, F: Flushing<S>>(
             packed: settings.packed,
         },
     };
-    explain_all(alloc, source, out, settings, explaining, flushing)
+    explain_messages(alloc, source, out, settings, explaining, flushing)
 }

@@ -3,40 +3,25 @@
 
 use crate::cap_run::engines::canonical_object::print_canonical_object;
 use crate::cap_run::engines::explain::filter_refusal;
-use crate::cap_run::engines::explaining::{explain_all, PlacedJudge};
-use crate::cap_run::engines::sentence::last_reason;
+use crate::cap_run::engines::sentence::{last_reason, reason_lines};
 use crate::cap_run::engines::stream::Counted;
-use crate::cap_run::engines::whole::after_text;
+use crate::cap_run::engines::vetting::{
+    after_text, AcceptedPrinter, ExclusiveVetting, RefusalPrinter, Vetting,
+};
+use crate::cap_run::engines::whole::explain_messages;
 use crate::cap_run::settings::{ExplainSettings, Outcome};
 use crate::cap_run::waiting::Flushing;
 use crate::cap_text::{
     write_accepted_json, write_explained_json, write_explained_overlap_json, write_filtered_json,
     Cause, ExplainedFault, Page,
 };
-use capvet_core::cap_explain::{explain, explain_overlap, Explanation, Numbers};
+use capvet_core::cap_explain::{cycle_level, explain_overlap, Explanation};
 use capvet_core::cap_frame::Segments;
 use capvet_core::cap_spec::StrictRefusal;
 use capvet_core::cap_trace::NamedPath;
-use capvet_core::cap_vet::{
-    vet_exclusive, vet_with, Demands, ExclusiveRefusal, Limits, Report, Vetted,
-};
+use capvet_core::cap_vet::{Demands, Limits, Report, Vetted};
 use capvet_core::cap_words::{ByteOut, OutFault, WordSource};
 use capvet_core::rattle::alloc::Global;
-
-/// The lines that explain a refusal, without a path. The last gives its sentence, which no number
-/// changes.
-pub(crate) fn reason_lines<M: Segments>(message: &M, refusal: &StrictRefusal) -> Explanation {
-    let numbers = Numbers {
-        words: 0,
-        depth: 0,
-        charge: None,
-        has_table: true,
-        start: None,
-    };
-    let mut lines = Explanation::new();
-    explain(&mut lines, message, refusal, numbers, None);
-    lines
-}
 
 /// The lines that explain that a pointer uses a word twice, without a path. The last gives its
 /// sentence.
@@ -59,7 +44,8 @@ fn write_fault_object<M: Segments, O: ByteOut>(
     path.find_refused(message, limits, refusal);
     let lines = reason_lines(message, refusal);
     let sentence = last_reason(lines.text());
-    write_explained_json(page, out, number, refusal, path.steps(), sentence)
+    let cycle = cycle_level(message, refusal, limits);
+    write_explained_json(page, out, number, refusal, path.steps(), sentence, cycle)
 }
 
 /// Writes the object of a message that is accepted, and that `filter`, the guard and the libraries
@@ -98,22 +84,30 @@ fn write_accepted_object<M: Segments, O: ByteOut>(
     }
 }
 
-/// Writes the object of a message that is accepted. It says whether the message is canonical, and
-/// why not, if that is asked.
-fn print_accepted_object<M: Segments, O: ByteOut>(
-    page: &mut Page,
-    out: &mut O,
-    number: u32,
-    vetted: &Vetted<'_, M>,
-    limits: Limits,
+/// Writes the object of a message that is accepted.
+#[derive(Clone, Copy)]
+struct ObjectPrinter {
+    /// Whether the object says whether the message is canonical, and why not.
     canonical: bool,
-) -> Result<Counted, Cause> {
-    if canonical {
-        return print_canonical_object(page, out, number, vetted, limits);
+}
+
+impl AcceptedPrinter for ObjectPrinter {
+    fn print_accepted<M: Segments, O: ByteOut>(
+        &self,
+        page: &mut Page,
+        out: &mut O,
+        _before: u64,
+        number: u32,
+        vetted: &Vetted<'_, M>,
+        limits: Limits,
+    ) -> Result<Counted, Cause> {
+        if self.canonical {
+            return print_canonical_object(page, out, number, vetted, limits);
+        }
+        let report = vetted.report();
+        let written = write_accepted_object(page, out, number, vetted.message(), &report, limits);
+        after_text(written, Counted::Accepted)
     }
-    let report = vetted.report();
-    let written = write_accepted_object(page, out, number, vetted.message(), &report, limits);
-    after_text(written, Counted::Accepted)
 }
 
 /// Writes the object of a message within limits that uses a word twice, with the first pointer that
@@ -144,83 +138,43 @@ fn write_overlap_object<M: Segments, O: ByteOut>(
     )
 }
 
-/// Vets a message under demands, and writes its object. If it doesn't meet them, the object explains
-/// why.
+/// Writes the object of a message that is refused, which explains why.
 #[derive(Clone, Copy)]
-struct Explaining {
-    limits: Limits,
-    demands: Demands,
-    canonical: bool,
-}
+struct ExplainedRefusals;
 
-impl PlacedJudge for Explaining {
-    fn judge<M: Segments, O: ByteOut>(
+impl RefusalPrinter for ExplainedRefusals {
+    fn write_refused<M: Segments, O: ByteOut>(
         &self,
         page: &mut Page,
         out: &mut O,
-        _before: u64,
         number: u32,
         message: &M,
-    ) -> Result<Counted, Cause> {
-        let limits = self.limits;
-        match vet_with(message, limits, self.demands) {
-            Ok(vetted) => print_accepted_object(page, out, number, &vetted, limits, self.canonical),
-            Err(refusal) => {
-                let written = write_fault_object(page, out, number, message, &refusal, limits);
-                after_text(written, Counted::Refused)
-            }
-        }
+        refusal: &StrictRefusal,
+        limits: Limits,
+    ) -> Result<(), OutFault> {
+        write_fault_object(page, out, number, message, refusal, limits)
     }
-}
 
-/// Vets a message under demands, and writes its object. If it doesn't meet them, or uses a word twice,
-/// the object explains why.
-#[derive(Clone, Copy)]
-struct ExplainingExclusive {
-    alloc: Global,
-    limits: Limits,
-    demands: Demands,
-    canonical: bool,
-}
-
-impl PlacedJudge for ExplainingExclusive {
-    fn judge<M: Segments, O: ByteOut>(
+    fn write_overlap<M: Segments, O: ByteOut>(
         &self,
         page: &mut Page,
         out: &mut O,
-        _before: u64,
         number: u32,
         message: &M,
-    ) -> Result<Counted, Cause> {
-        let limits = self.limits;
-        match vet_exclusive(self.alloc, message, limits, self.demands) {
-            Ok(exclusive) => {
-                let vetted = exclusive.into_vetted();
-                print_accepted_object(page, out, number, &vetted, limits, self.canonical)
-            }
-            Err(ExclusiveRefusal::Refused(refusal)) => {
-                let written = write_fault_object(page, out, number, message, &refusal, limits);
-                after_text(written, Counted::Refused)
-            }
-            Err(ExclusiveRefusal::Overlap {
-                segment,
-                word,
-                pointers,
-            }) => {
-                let written = write_overlap_object(
-                    page, out, number, message, limits, segment, word, pointers,
-                );
-                after_text(written, Counted::Refused)
-            }
-            Err(ExclusiveRefusal::Memory) => Err(Cause::Memory),
-        }
+        segment: u32,
+        word: u32,
+        pointers: u64,
+        limits: Limits,
+    ) -> Result<(), OutFault> {
+        write_overlap_object(page, out, number, message, limits, segment, word, pointers)
     }
 }
 
 /// Does what [`run_explain`](crate::run_explain) does, and writes a JSON object for each message in the
-/// place of its lines. That of a refused message has the path to the pointer, and the reason as a
-/// sentence. That of an accepted message says why `filter`, the guard and the libraries refuse it, if
-/// they do (docs/output.md, JSON).
+/// place of its lines. That of a refused message has the path to the pointer and the reason as a
+/// sentence. It has the level of a cycle if the depth limit is passed and the path returns to the
+/// pointer word. That of an accepted message says why `filter`, the guard and the libraries refuse it,
+/// if they do (docs/output.md, JSON).
 ///
 /// # Errors
 ///
@@ -233,12 +187,15 @@ pub fn run_explain_json<S: WordSource, O: ByteOut, F: Flushing<S>>(
     demands: Demands,
     flushing: &F,
 ) -> Result<Outcome, ExplainedFault> {
-    let explaining = Explaining {
+    let vetting = Vetting {
         limits: settings.limits,
         demands,
-        canonical: settings.canonical,
+        accepted: ObjectPrinter {
+            canonical: settings.canonical,
+        },
+        refused: ExplainedRefusals,
     };
-    explain_all(alloc, source, out, settings, explaining, flushing)
+    explain_messages(alloc, source, out, settings, vetting, flushing)
 }
 
 /// Does what [`run_explain_exclusive`](crate::run_explain_exclusive) does, and writes a JSON object for
@@ -255,11 +212,14 @@ pub fn run_explain_exclusive_json<S: WordSource, O: ByteOut, F: Flushing<S>>(
     demands: Demands,
     flushing: &F,
 ) -> Result<Outcome, ExplainedFault> {
-    let explaining = ExplainingExclusive {
+    let vetting = ExclusiveVetting {
         alloc,
         limits: settings.limits,
         demands,
-        canonical: settings.canonical,
+        accepted: ObjectPrinter {
+            canonical: settings.canonical,
+        },
+        refused: ExplainedRefusals,
     };
-    explain_all(alloc, source, out, settings, explaining, flushing)
+    explain_messages(alloc, source, out, settings, vetting, flushing)
 }

@@ -1,8 +1,9 @@
 // crates/cap_run/src/engines/filter.rt without its contracts, by tools/erase: that text is proved, this one is only tested.
 //! The engine that lets the accepted messages of a stream through.
 
-use crate::cap_run::engines::sifting::{Passage, Sieve};
-use crate::cap_run::engines::stream::{count, end_stream, Counted};
+use crate::cap_run::engines::reading::{end_stream, no_break};
+use crate::cap_run::engines::sifting::{FilterState, MessageFilter};
+use crate::cap_run::engines::stream::{count, Counted};
 use crate::cap_run::settings::{FilterForm, Outcome, Settings};
 use crate::cap_run::waiting::{Flushing, AHEAD};
 use crate::cap_text::{Cause, RunFault};
@@ -16,13 +17,13 @@ struct FilterBuffers {
     message: ByteMessage,
     /// A place for words that are looked at ahead.
     ahead: [u8; AHEAD],
-    passage: Passage,
+    state: FilterState,
 }
 
 /// Reads the next message and sifts it. `None` if the stream ends before it. The frame of an
 /// accepted message is flushed as `flushing` says.
 fn sift_next<S: WordSource, O: ByteOut, E: ByteOut, F: Flushing<S>>(
-    sieve: &Sieve,
+    filter: &MessageFilter,
     buffers: &mut FilterBuffers,
     source: &mut S,
     out: &mut O,
@@ -31,11 +32,11 @@ fn sift_next<S: WordSource, O: ByteOut, E: ByteOut, F: Flushing<S>>(
     flushing: &F,
     number: u32,
 ) -> Result<Option<Counted>, Cause> {
-    match read_into(sieve.alloc, source, settings.size, &mut buffers.message) {
+    match read_into(filter.alloc, source, settings.size, &mut buffers.message) {
         Ok(true) => {
             let wait = !flushing.before_message(source, settings.size, &mut buffers.ahead);
             let message = buffers.message.view();
-            match sieve.sift(&mut buffers.passage, out, log, wait, number, &message) {
+            match filter.sift(&mut buffers.state, out, log, wait, number, &message) {
                 Ok(counted) => Ok(Some(counted)),
                 Err(cause) => Err(cause),
             }
@@ -55,7 +56,7 @@ fn ends_after(counted: Counted, stop: bool) -> bool {
 
 /// Sifts the messages of a stream to its end, or to the first refused one.
 fn sift_each<S: WordSource, O: ByteOut, E: ByteOut, F: Flushing<S>>(
-    sieve: &Sieve,
+    filter: &MessageFilter,
     source: &mut S,
     out: &mut O,
     log: &mut E,
@@ -68,13 +69,13 @@ fn sift_each<S: WordSource, O: ByteOut, E: ByteOut, F: Flushing<S>>(
         noncanonical: 0,
     };
     let mut buffers = FilterBuffers {
-        message: ByteMessage::blank(sieve.alloc),
+        message: ByteMessage::blank(filter.alloc),
         ahead: [0; AHEAD],
-        passage: Passage::new(),
+        state: FilterState::new(),
     };
     for number in 0..settings.messages {
         match sift_next(
-            sieve,
+            filter,
             &mut buffers,
             source,
             out,
@@ -85,7 +86,7 @@ fn sift_each<S: WordSource, O: ByteOut, E: ByteOut, F: Flushing<S>>(
         ) {
             Ok(Some(counted)) => {
                 outcome = count(outcome, counted);
-                if ends_after(counted, sieve.form.stop) {
+                if ends_after(counted, filter.form.stop) {
                     return Ok(outcome);
                 }
             }
@@ -98,7 +99,7 @@ fn sift_each<S: WordSource, O: ByteOut, E: ByteOut, F: Flushing<S>>(
             }
         }
     }
-    match end_stream(source, settings.size) {
+    match end_stream(source, settings.size, &mut no_break(false)) {
         Ok(()) => Ok(outcome),
         Err(cause) => Err(RunFault {
             message: settings.messages,
@@ -153,11 +154,11 @@ pub fn run_filter<S: WordSource, O: ByteOut, E: ByteOut, F: Flushing<S>>(
     form: FilterForm,
     flushing: &F,
 ) -> Result<Outcome, RunFault> {
-    let sieve = Sieve {
+    let filter = MessageFilter {
         alloc,
         limits: settings.limits,
         demands,
         form,
     };
-    sift_each(&sieve, source, out, log, settings, flushing)
+    sift_each(&filter, source, out, log, settings, flushing)
 }

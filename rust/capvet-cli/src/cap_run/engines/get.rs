@@ -2,13 +2,13 @@
 //! The engine that writes the node of each message at one path.
 
 use crate::cap_run::engines::stream::Counted;
-use crate::cap_run::engines::whole::{after_text, vet_all, Printer};
+use crate::cap_run::engines::vetting::{after_text, vet_all, AcceptedPrinter};
 use crate::cap_run::settings::{Outcome, Settings};
 use crate::cap_run::waiting::{FlushNever, Flushing};
 use crate::cap_text::{write_node, Cause, Page, RunFault};
 use capvet_core::cap_frame::Segments;
 use capvet_core::cap_spec::Step;
-use capvet_core::cap_vet::{Demands, Vetted};
+use capvet_core::cap_vet::{Demands, Limits, Vetted};
 use capvet_core::cap_words::{ByteOut, WordSource};
 use capvet_core::rattle::alloc::Global;
 
@@ -18,13 +18,15 @@ struct GetPrinter<'p> {
     path: &'p [Step],
 }
 
-impl<'p> Printer for GetPrinter<'p> {
-    fn print<M: Segments, O: ByteOut>(
+impl<'p> AcceptedPrinter for GetPrinter<'p> {
+    fn print_accepted<M: Segments, O: ByteOut>(
         &self,
         page: &mut Page,
         out: &mut O,
+        _before: u64,
         number: u32,
         vetted: &Vetted<'_, M>,
+        _limits: Limits,
     ) -> Result<Counted, Cause> {
         let written = write_node(page, out, number, vetted.get(self.path));
         after_text(written, Counted::Accepted)

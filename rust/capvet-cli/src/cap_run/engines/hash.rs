@@ -2,14 +2,14 @@
 //! The engine that writes for each message the hash of its canonical words.
 
 use crate::cap_run::engines::stream::Counted;
-use crate::cap_run::engines::whole::{after_text, vet_all, Printer};
+use crate::cap_run::engines::vetting::{after_text, vet_all, AcceptedPrinter};
 use crate::cap_run::settings::{Outcome, Settings};
 use crate::cap_run::waiting::{FlushNever, Flushing};
 use crate::cap_text::{write_digest, write_hash, write_no_form, Cause, Page, RunFault};
 use crate::rattle::sha2::{Digest, Sha256};
 use capvet_core::cap_canon::{canonical_bytes, is_canonical, CanonFault};
 use capvet_core::cap_frame::Segments;
-use capvet_core::cap_vet::{Demands, Vetted};
+use capvet_core::cap_vet::{Demands, Limits, Vetted};
 use capvet_core::cap_words::{bytes_of, ByteOut, OutFault, WordSource};
 use capvet_core::rattle::alloc::Global;
 
@@ -73,13 +73,15 @@ struct HashPrinter {
     alone: bool,
 }
 
-impl Printer for HashPrinter {
-    fn print<M: Segments, O: ByteOut>(
+impl AcceptedPrinter for HashPrinter {
+    fn print_accepted<M: Segments, O: ByteOut>(
         &self,
         page: &mut Page,
         out: &mut O,
+        _before: u64,
         number: u32,
         vetted: &Vetted<'_, M>,
+        _limits: Limits,
     ) -> Result<Counted, Cause> {
         match digest_of(self.alloc, vetted) {
             Ok(digest) => {

@@ -4,7 +4,10 @@
 use crate::cap_run::engines::check::count_of;
 use crate::cap_run::engines::hash::digest_of;
 use crate::cap_run::engines::stream::Counted;
-use crate::cap_run::engines::whole::{after_text, judge_all, Judge, Printer};
+use crate::cap_run::engines::vetting::{
+    after_text, AcceptedPrinter, ExclusiveVetting, RefusalPrinter, Vetting,
+};
+use crate::cap_run::engines::whole::{print_messages, MessagePrinter};
 use crate::cap_run::settings::{Outcome, Settings};
 use crate::cap_run::waiting::Flushing;
 use crate::cap_text::{
@@ -13,21 +16,24 @@ use crate::cap_text::{
 };
 use capvet_core::cap_canon::{check_with, CanonFault};
 use capvet_core::cap_frame::Segments;
-use capvet_core::cap_vet::{vet_exclusive, vet_with, Demands, ExclusiveRefusal, Limits, Vetted};
-use capvet_core::cap_words::{ByteOut, WordSource};
+use capvet_core::cap_spec::StrictRefusal;
+use capvet_core::cap_vet::{Demands, Limits, Vetted};
+use capvet_core::cap_words::{ByteOut, OutFault, WordSource};
 use capvet_core::rattle::alloc::Global;
 
 /// Writes the numbers of a message's tree.
 #[derive(Clone, Copy)]
-struct AcceptedPrinter;
+struct NumbersPrinter;
 
-impl Printer for AcceptedPrinter {
-    fn print<M: Segments, O: ByteOut>(
+impl AcceptedPrinter for NumbersPrinter {
+    fn print_accepted<M: Segments, O: ByteOut>(
         &self,
         page: &mut Page,
         out: &mut O,
+        _before: u64,
         number: u32,
         vetted: &Vetted<'_, M>,
+        _limits: Limits,
     ) -> Result<Counted, Cause> {
         let written = write_accepted_json(page, out, number, &vetted.report());
         after_text(written, Counted::Accepted)
@@ -40,13 +46,15 @@ struct HashPrinter {
     alloc: Global,
 }
 
-impl Printer for HashPrinter {
-    fn print<M: Segments, O: ByteOut>(
+impl AcceptedPrinter for HashPrinter {
+    fn print_accepted<M: Segments, O: ByteOut>(
         &self,
         page: &mut Page,
         out: &mut O,
+        _before: u64,
         number: u32,
         vetted: &Vetted<'_, M>,
+        _limits: Limits,
     ) -> Result<Counted, Cause> {
         match digest_of(self.alloc, vetted) {
             Ok(digest) => {
@@ -62,70 +70,35 @@ impl Printer for HashPrinter {
     }
 }
 
-/// Vets a message under demands, and writes the object of its printer if the message meets them.
-/// Otherwise it writes the object with the first reason why not, and the place.
+/// Writes the object of a message that is refused.
 #[derive(Clone, Copy)]
-struct Vetting<T> {
-    limits: Limits,
-    demands: Demands,
-    printer: T,
-}
+struct RefusalObjects;
 
-impl<T: Printer> Judge for Vetting<T> {
-    fn judge<M: Segments, O: ByteOut>(
+impl RefusalPrinter for RefusalObjects {
+    fn write_refused<M: Segments, O: ByteOut>(
         &self,
         page: &mut Page,
         out: &mut O,
         number: u32,
-        message: &M,
-    ) -> Result<Counted, Cause> {
-        match vet_with(message, self.limits, self.demands) {
-            Ok(vetted) => self.printer.print(page, out, number, &vetted),
-            Err(refusal) => {
-                let written = write_refused_json(page, out, number, &refusal);
-                after_text(written, Counted::Refused)
-            }
-        }
+        _message: &M,
+        refusal: &StrictRefusal,
+        _limits: Limits,
+    ) -> Result<(), OutFault> {
+        write_refused_json(page, out, number, refusal)
     }
-}
 
-/// Vets a message under demands, and writes the object of its verdict. A message that uses a word twice
-/// is refused.
-#[derive(Clone, Copy)]
-struct ExclusiveVetting {
-    alloc: Global,
-    limits: Limits,
-    demands: Demands,
-}
-
-impl Judge for ExclusiveVetting {
-    fn judge<M: Segments, O: ByteOut>(
+    fn write_overlap<M: Segments, O: ByteOut>(
         &self,
         page: &mut Page,
         out: &mut O,
         number: u32,
-        message: &M,
-    ) -> Result<Counted, Cause> {
-        match vet_exclusive(self.alloc, message, self.limits, self.demands) {
-            Ok(exclusive) => {
-                let report = exclusive.into_vetted().report();
-                let written = write_accepted_json(page, out, number, &report);
-                after_text(written, Counted::Accepted)
-            }
-            Err(ExclusiveRefusal::Refused(refusal)) => {
-                let written = write_refused_json(page, out, number, &refusal);
-                after_text(written, Counted::Refused)
-            }
-            Err(ExclusiveRefusal::Overlap {
-                segment,
-                word,
-                pointers,
-            }) => {
-                let written = write_overlap_json(page, out, number, segment, word, pointers);
-                after_text(written, Counted::Refused)
-            }
-            Err(ExclusiveRefusal::Memory) => Err(Cause::Memory),
-        }
+        _message: &M,
+        segment: u32,
+        word: u32,
+        pointers: u64,
+        _limits: Limits,
+    ) -> Result<(), OutFault> {
+        write_overlap_json(page, out, number, segment, word, pointers)
     }
 }
 
@@ -137,11 +110,12 @@ struct Checking {
     demands: Demands,
 }
 
-impl Judge for Checking {
-    fn judge<M: Segments, O: ByteOut>(
+impl MessagePrinter for Checking {
+    fn print_message<M: Segments, O: ByteOut>(
         &self,
         page: &mut Page,
         out: &mut O,
+        _before: u64,
         number: u32,
         message: &M,
     ) -> Result<Counted, Cause> {
@@ -175,9 +149,10 @@ pub fn run_vet_json<S: WordSource, O: ByteOut, F: Flushing<S>>(
     let vetting = Vetting {
         limits: settings.limits,
         demands,
-        printer: AcceptedPrinter,
+        accepted: NumbersPrinter,
+        refused: RefusalObjects,
     };
-    judge_all(alloc, source, out, settings, vetting, flushing)
+    print_messages(alloc, source, out, settings, vetting, flushing)
 }
 
 /// Does what [`run_vet_exclusive_with`](crate::run_vet_exclusive_with) does, and writes a JSON object
@@ -198,8 +173,10 @@ pub fn run_vet_exclusive_json<S: WordSource, O: ByteOut, F: Flushing<S>>(
         alloc,
         limits: settings.limits,
         demands,
+        accepted: NumbersPrinter,
+        refused: RefusalObjects,
     };
-    judge_all(alloc, source, out, settings, vetting, flushing)
+    print_messages(alloc, source, out, settings, vetting, flushing)
 }
 
 /// Does what [`run_check_with`](crate::run_check_with) does, and writes a JSON object for each message
@@ -220,7 +197,7 @@ pub fn run_check_json<S: WordSource, O: ByteOut, F: Flushing<S>>(
         limits: settings.limits,
         demands,
     };
-    judge_all(alloc, source, out, settings, checking, flushing)
+    print_messages(alloc, source, out, settings, checking, flushing)
 }
 
 /// Does what [`run_hash_with`](crate::run_hash_with) does, and writes a JSON object for each message in
@@ -240,7 +217,8 @@ pub fn run_hash_json<S: WordSource, O: ByteOut, F: Flushing<S>>(
     let vetting = Vetting {
         limits: settings.limits,
         demands,
-        printer: HashPrinter { alloc },
+        accepted: HashPrinter { alloc },
+        refused: RefusalObjects,
     };
-    judge_all(alloc, source, out, settings, vetting, flushing)
+    print_messages(alloc, source, out, settings, vetting, flushing)
 }

@@ -1,10 +1,11 @@
 // crates/cap_run/src/engines/segments.rt without its contracts, by tools/erase: that text is proved, this one is only tested.
 //! The engine that writes how each message is cut into segments.
 
+use crate::cap_run::engines::reading::no_break;
 use crate::cap_run::engines::stream::{print_all, Counted, Engine};
 use crate::cap_run::settings::{Outcome, Settings};
 use crate::cap_run::waiting::{FlushNever, Flushing};
-use crate::cap_text::{write_segments, Cause, Page, RunFault};
+use crate::cap_text::{write_segments, Cause, Page, RunFault, StreamBreak};
 use capvet_core::cap_frame::{read_outline, Outline, SizeLimit};
 use capvet_core::cap_words::{ByteOut, WordSource};
 
@@ -34,11 +35,13 @@ impl Engine for SegmentsEngine {
         source: &mut S,
         out: &mut O,
         limit: SizeLimit,
+        _before: u64,
         number: u32,
-    ) -> Result<Option<Counted>, Cause> {
+        _at: &mut StreamBreak,
+    ) -> Result<Option<(Counted, u64)>, Cause> {
         match read_outline(source, limit, &mut buffers.outline) {
             Ok(true) => match write_segments(&mut buffers.page, out, number, &buffers.outline) {
-                Ok(()) => Ok(Some(Counted::Accepted)),
+                Ok(()) => Ok(Some((Counted::Accepted, 0))),
                 Err(fault) => Err(Cause::Output(fault)),
             },
             Ok(false) => Ok(None),
@@ -84,5 +87,12 @@ pub fn run_segments_with<S: WordSource, O: ByteOut, F: Flushing<S>>(
     settings: &Settings,
     flushing: &F,
 ) -> Result<Outcome, RunFault> {
-    print_all(source, out, settings, &SegmentsEngine, flushing)
+    print_all(
+        source,
+        out,
+        settings,
+        &SegmentsEngine,
+        &mut no_break(false),
+        flushing,
+    )
 }

@@ -1,6 +1,26 @@
 // crates/cap_run/src/engines/sentence.rt without its contracts, by tools/erase: that text is proved, this one is only tested.
 //! The reason of a refusal as a sentence, from the lines that explain the refusal.
 
+use capvet_core::cap_explain::{explain, Explanation, Numbers};
+use capvet_core::cap_frame::Segments;
+use capvet_core::cap_spec::StrictRefusal;
+
+/// The lines that explain a refusal, without a path. The last gives its sentence, which no number
+/// changes.
+pub(crate) fn reason_lines<M: Segments>(message: &M, refusal: &StrictRefusal) -> Explanation {
+    let numbers = Numbers {
+        words: 0,
+        depth: 0,
+        charge: None,
+        cycle: None,
+        has_table: true,
+        start: None,
+    };
+    let mut lines = Explanation::new();
+    explain(&mut lines, message, refusal, numbers, None);
+    lines
+}
+
 /// How many bytes of a line with a reason are before its sentence: those of `  reason `.
 const BEFORE: usize = 9;
 

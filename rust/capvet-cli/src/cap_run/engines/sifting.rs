@@ -13,7 +13,7 @@ use capvet_core::rattle::alloc::Global;
 
 /// Why a message is refused.
 #[derive(Clone, Copy)]
-pub(crate) enum Objection {
+pub(crate) enum Rejection {
     /// It doesn't meet the demands.
     Unmet(StrictRefusal),
     /// It meets them, and uses a word twice. This is the first pointer that overlaps.
@@ -25,15 +25,15 @@ pub(crate) enum Objection {
 }
 
 /// Writes the line of a refused message.
-pub(crate) fn write_objection<E: ByteOut>(
+pub(crate) fn write_rejection<E: ByteOut>(
     page: &mut Page,
     log: &mut E,
     number: u32,
-    objection: &Objection,
+    rejection: &Rejection,
 ) -> Result<(), OutFault> {
-    match objection {
-        Objection::Unmet(refusal) => write_refused(page, log, number, refusal),
-        Objection::Overlap {
+    match rejection {
+        Rejection::Unmet(refusal) => write_refused(page, log, number, refusal),
+        Rejection::Overlap {
             segment,
             word,
             pointers,
@@ -46,9 +46,9 @@ fn write_note<E: ByteOut>(
     page: &mut Page,
     log: &mut E,
     number: u32,
-    objection: &Objection,
+    rejection: &Rejection,
 ) -> Result<(), OutFault> {
-    match write_objection(page, log, number, objection) {
+    match write_rejection(page, log, number, rejection) {
         Ok(()) => log.flush(),
         Err(fault) => Err(fault),
     }
@@ -60,12 +60,12 @@ fn note<E: ByteOut>(
     log: &mut E,
     failed: bool,
     number: u32,
-    objection: &Objection,
+    rejection: &Rejection,
 ) -> bool {
     if failed {
         return true;
     }
-    match write_note(page, log, number, objection) {
+    match write_note(page, log, number, rejection) {
         Ok(()) => false,
         Err(_) => true,
     }
@@ -108,7 +108,7 @@ fn flush_waiting<O: ByteOut>(out: &mut O, waits: bool) -> Result<(), OutFault> {
 }
 
 /// What is kept from one message to the next, beside the message.
-pub(crate) struct Passage {
+pub(crate) struct FilterState {
     /// What frames are written from.
     buffers: FrameBuffers,
     /// The page for a line.
@@ -119,10 +119,10 @@ pub(crate) struct Passage {
     pub(crate) waits: bool,
 }
 
-impl Passage {
+impl FilterState {
     /// Nothing was written yet.
-    pub(crate) fn new() -> Passage {
-        Passage {
+    pub(crate) fn new() -> FilterState {
+        FilterState {
             buffers: FrameBuffers::new(),
             page: Page::new(),
             failed: false,
@@ -133,26 +133,26 @@ impl Passage {
 
 /// How messages are vetted and passed on.
 #[derive(Clone, Copy)]
-pub(crate) struct Sieve {
+pub(crate) struct MessageFilter {
     pub(crate) alloc: Global,
     pub(crate) limits: Limits,
     pub(crate) demands: Demands,
     pub(crate) form: FilterForm,
 }
 
-impl Sieve {
+impl MessageFilter {
     /// Vets a message. `None` if it is accepted.
     ///
     /// # Errors
     ///
     /// [`Cause::Memory`]: an allocation failed.
-    fn judge<M: Segments>(&self, message: &M) -> Result<Option<Objection>, Cause> {
+    fn vet<M: Segments>(&self, message: &M) -> Result<Option<Rejection>, Cause> {
         if self.form.exclusive {
-            return self.judge_exclusively(message);
+            return self.vet_exclusively(message);
         }
         match vet_with(message, self.limits, self.demands) {
             Ok(_) => Ok(None),
-            Err(refusal) => Ok(Some(Objection::Unmet(refusal))),
+            Err(refusal) => Ok(Some(Rejection::Unmet(refusal))),
         }
     }
 
@@ -161,15 +161,15 @@ impl Sieve {
     /// # Errors
     ///
     /// [`Cause::Memory`]: the allocation of the marks failed.
-    fn judge_exclusively<M: Segments>(&self, message: &M) -> Result<Option<Objection>, Cause> {
+    fn vet_exclusively<M: Segments>(&self, message: &M) -> Result<Option<Rejection>, Cause> {
         match vet_exclusive(self.alloc, message, self.limits, self.demands) {
             Ok(_) => Ok(None),
-            Err(ExclusiveRefusal::Refused(refusal)) => Ok(Some(Objection::Unmet(refusal))),
+            Err(ExclusiveRefusal::Refused(refusal)) => Ok(Some(Rejection::Unmet(refusal))),
             Err(ExclusiveRefusal::Overlap {
                 segment,
                 word,
                 pointers,
-            }) => Ok(Some(Objection::Overlap {
+            }) => Ok(Some(Rejection::Overlap {
                 segment,
                 word,
                 pointers,
@@ -191,26 +191,25 @@ impl Sieve {
     /// - [`Cause::Memory`]: an allocation failed. The output took nothing.
     pub(crate) fn sift<'b, O: ByteOut, E: ByteOut>(
         &self,
-        passage: &mut Passage,
+        state: &mut FilterState,
         out: &mut O,
         log: &mut E,
         wait: bool,
         number: u32,
         message: &ByteView<'b>,
     ) -> Result<Counted, Cause> {
-        match self.judge(message) {
-            Ok(None) => match pass_on(out, message, self.form.pack, wait, &mut passage.buffers) {
+        match self.vet(message) {
+            Ok(None) => match pass_on(out, message, self.form.pack, wait, &mut state.buffers) {
                 Ok(()) => {
-                    passage.waits = wait;
+                    state.waits = wait;
                     Ok(Counted::Accepted)
                 }
                 Err(fault) => Err(Cause::Output(fault)),
             },
-            Ok(Some(objection)) => match flush_waiting(out, passage.waits) {
+            Ok(Some(rejection)) => match flush_waiting(out, state.waits) {
                 Ok(()) => {
-                    passage.waits = false;
-                    passage.failed =
-                        note(&mut passage.page, log, passage.failed, number, &objection);
+                    state.waits = false;
+                    state.failed = note(&mut state.page, log, state.failed, number, &rejection);
                     Ok(Counted::Refused)
                 }
                 Err(fault) => Err(Cause::Output(fault)),

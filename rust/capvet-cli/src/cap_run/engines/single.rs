@@ -1,11 +1,11 @@
 // crates/cap_run/src/engines/single.rt without its contracts, by tools/erase: that text is proved, this one is only tested.
 //! Reading an input that has to be exactly one message.
 
-use crate::cap_run::engines::explaining::{read_next, stopped_at, ExplainBuffers};
 use crate::cap_run::engines::passing::{write_frame, FrameBuffers};
+use crate::cap_run::engines::reading::{no_break, read_next};
 use crate::cap_run::settings::ExplainSettings;
-use crate::cap_text::{Cause, ExplainedFault, RunFault, SingleFault};
-use capvet_core::cap_frame::{ByteView, FrameFault, Segments};
+use crate::cap_text::{Cause, ExplainedFault, RunFault, SingleFault, StreamBreak};
+use capvet_core::cap_frame::{ByteMessage, ByteView, FrameFault, Segments};
 use capvet_core::cap_words::{ByteOut, SourceFault, VecOut, WordSource};
 use capvet_core::rattle::alloc::Global;
 
@@ -15,6 +15,14 @@ fn frame_of<'b>(alloc: Global, message: &ByteView<'b>) -> Option<VecOut> {
     match write_frame(&mut frame, message, &mut FrameBuffers::new()) {
         Ok(()) => Some(frame),
         Err(_) => None,
+    }
+}
+
+/// The fault at a message, and what is known of the message.
+fn stopped_at(message: u32, cause: Cause, at: StreamBreak) -> ExplainedFault {
+    ExplainedFault {
+        fault: RunFault { message, cause },
+        at,
     }
 }
 
@@ -37,14 +45,15 @@ pub fn read_single<S: WordSource>(
     source: &mut S,
     settings: &ExplainSettings,
 ) -> Result<Option<VecOut>, ExplainedFault> {
-    let mut buffers = ExplainBuffers::new(alloc);
-    match read_next(alloc, source, settings, &mut buffers) {
-        Ok(true) => match frame_of(alloc, &buffers.message.view()) {
+    let mut message = ByteMessage::blank(alloc);
+    let mut at = no_break(settings.packed);
+    match read_next(alloc, source, settings.size, &mut message, &mut at) {
+        Ok(true) => match frame_of(alloc, &message.view()) {
             Some(frame) => Ok(Some(frame)),
-            None => Err(stopped_at(0, Cause::Memory, buffers.at)),
+            None => Err(stopped_at(0, Cause::Memory, at)),
         },
         Ok(false) => Ok(None),
-        Err(fault) => Err(stopped_at(0, Cause::Frame(fault), buffers.at)),
+        Err(fault) => Err(stopped_at(0, Cause::Frame(fault), at)),
     }
 }
 

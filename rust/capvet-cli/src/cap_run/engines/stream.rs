@@ -1,10 +1,11 @@
 // crates/cap_run/src/engines/stream.rt without its contracts, by tools/erase: that text is proved, this one is only tested.
 //! Reading the messages of a stream, and writing a text for each.
 
+use crate::cap_run::engines::reading::end_stream;
 use crate::cap_run::settings::{Outcome, Settings};
 use crate::cap_run::waiting::{flush_output, Flushing, AHEAD};
-use crate::cap_text::{Cause, RunFault};
-use capvet_core::cap_frame::{read_outline, FrameFault, Outline, SizeLimit};
+use crate::cap_text::{Cause, RunFault, StreamBreak};
+use capvet_core::cap_frame::{FrameFault, SizeLimit};
 use capvet_core::cap_words::{ByteOut, OutFault, WordSource};
 
 /// What is counted of a message.
@@ -26,8 +27,9 @@ pub(crate) trait Engine {
     /// The buffers as they are before the first message.
     fn buffers(&self) -> Self::Buffers;
 
-    /// Reads the next message and writes its text. `None` if the stream ends before it. The text
-    /// doesn't depend on what the buffers held before.
+    /// Reads the next message and writes its text. Returns what is counted of the message, and its
+    /// words. `None` if the stream ends before it. The text doesn't depend on what the buffers held
+    /// before. If the message can't be read, `at` is what is known of it.
     ///
     /// # Errors
     ///
@@ -41,17 +43,10 @@ pub(crate) trait Engine {
         source: &mut S,
         out: &mut O,
         limit: SizeLimit,
+        before: u64,
         number: u32,
-    ) -> Result<Option<Counted>, Cause>;
-}
-
-/// Checks that the stream ends here. One more message is [`Cause::TooManyMessages`].
-pub(crate) fn end_stream<S: WordSource>(source: &mut S, limit: SizeLimit) -> Result<(), Cause> {
-    match read_outline(source, limit, &mut Outline::new()) {
-        Ok(true) => Err(Cause::TooManyMessages),
-        Ok(false) => Ok(()),
-        Err(fault) => Err(Cause::Frame(fault)),
-    }
+        at: &mut StreamBreak,
+    ) -> Result<Option<(Counted, u64)>, Cause>;
 }
 
 /// The fault of an output at a message.
@@ -80,6 +75,7 @@ fn print_each<S: WordSource, O: ByteOut, E: Engine, F: Flushing<S>>(
     out: &mut O,
     settings: &Settings,
     engine: &E,
+    at: &mut StreamBreak,
     flushing: &F,
 ) -> Result<Outcome, RunFault> {
     let mut outcome = Outcome {
@@ -89,12 +85,16 @@ fn print_each<S: WordSource, O: ByteOut, E: Engine, F: Flushing<S>>(
     };
     let mut buffers = engine.buffers();
     let mut ahead = [0; AHEAD];
+    let mut before = 0;
     for number in 0..settings.messages {
-        match engine.print_next(&mut buffers, source, out, settings.size, number) {
-            Ok(Some(counted)) => {
+        match engine.print_next(&mut buffers, source, out, settings.size, before, number, at) {
+            Ok(Some((counted, words))) => {
                 let waits = flushing.before_message(source, settings.size, &mut ahead);
                 match flush_output(out, waits) {
-                    Ok(()) => outcome = count(outcome, counted),
+                    Ok(()) => {
+                        outcome = count(outcome, counted);
+                        before += words;
+                    }
                     Err(fault) => return Err(output_fault_at(number, fault)),
                 }
             }
@@ -107,7 +107,7 @@ fn print_each<S: WordSource, O: ByteOut, E: Engine, F: Flushing<S>>(
             }
         }
     }
-    match end_stream(source, settings.size) {
+    match end_stream(source, settings.size, at) {
         Ok(()) => Ok(outcome),
         Err(cause) => Err(RunFault {
             message: settings.messages,
@@ -117,13 +117,15 @@ fn print_each<S: WordSource, O: ByteOut, E: Engine, F: Flushing<S>>(
 }
 
 /// Reads the messages of a stream to its end, and writes the text of each before it reads the next.
-/// It flushes the text as `flushing` says.
+/// It flushes the text as `flushing` says. `at` says whether the input is packed. If a message can't
+/// be read, it is then what is known of that message.
 pub(crate) fn print_all<S: WordSource, O: ByteOut, E: Engine, F: Flushing<S>>(
     source: &mut S,
     out: &mut O,
     settings: &Settings,
     engine: &E,
+    at: &mut StreamBreak,
     flushing: &F,
 ) -> Result<Outcome, RunFault> {
-    print_each(source, out, settings, engine, flushing)
+    print_each(source, out, settings, engine, at, flushing)
 }

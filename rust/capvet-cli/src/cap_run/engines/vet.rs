@@ -2,12 +2,12 @@
 //! The engine that writes for each message whether it is accepted.
 
 use crate::cap_run::engines::stream::Counted;
-use crate::cap_run::engines::whole::{after_text, vet_all, Printer};
+use crate::cap_run::engines::vetting::{after_text, vet_all, AcceptedPrinter};
 use crate::cap_run::settings::{Outcome, Settings};
 use crate::cap_run::waiting::{FlushNever, Flushing};
 use crate::cap_text::{write_accepted, Cause, Page, RunFault};
 use capvet_core::cap_frame::Segments;
-use capvet_core::cap_vet::{Demands, Vetted};
+use capvet_core::cap_vet::{Demands, Limits, Vetted};
 use capvet_core::cap_words::{ByteOut, WordSource};
 use capvet_core::rattle::alloc::Global;
 
@@ -15,15 +15,17 @@ use capvet_core::rattle::alloc::Global;
 #[derive(Clone, Copy)]
 pub(crate) struct VetPrinter;
 
-impl Printer for VetPrinter {
+impl AcceptedPrinter for VetPrinter {
     // A call would load the report from words that were just stored at other boundaries, and wait.
     #[inline(always)]
-    fn print<M: Segments, O: ByteOut>(
+    fn print_accepted<M: Segments, O: ByteOut>(
         &self,
         page: &mut Page,
         out: &mut O,
+        _before: u64,
         number: u32,
         vetted: &Vetted<'_, M>,
+        _limits: Limits,
     ) -> Result<Counted, Cause> {
         let written = write_accepted(page, out, number, &vetted.report());
         after_text(written, Counted::Accepted)

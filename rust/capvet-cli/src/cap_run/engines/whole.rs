@@ -1,85 +1,32 @@
 // crates/cap_run/src/engines/whole.rt without its contracts, by tools/erase: that text is proved, this one is only tested.
-//! Writing a text about each message of a stream, with the whole message in memory.
+//! Reading each message of a stream whole, and writing its text.
 
+use crate::cap_run::engines::reading::{no_break, read_next};
 use crate::cap_run::engines::stream::{print_all, Counted, Engine};
-use crate::cap_run::settings::{Outcome, Settings};
+use crate::cap_run::settings::{ExplainSettings, Outcome, Settings};
 use crate::cap_run::waiting::Flushing;
-use crate::cap_text::{write_refused, Cause, Page, RunFault};
-use capvet_core::cap_frame::{read_into, ByteMessage, Segments, SizeLimit};
-use capvet_core::cap_vet::{vet_with, Demands, Limits, Vetted};
-use capvet_core::cap_words::{ByteOut, OutFault, WordSource};
+use crate::cap_text::{Cause, ExplainedFault, Page, RunFault, StreamBreak};
+use capvet_core::cap_explain::frame_words;
+use capvet_core::cap_frame::{ByteMessage, Segments, SizeLimit};
+use capvet_core::cap_words::{ByteOut, WordSource};
 use capvet_core::rattle::alloc::Global;
 
-/// What an engine writes about an accepted message.
-pub(crate) trait Printer {
-    /// Writes the text of an accepted message. What the page held before isn't written.
-    ///
-    /// # Errors
-    ///
-    /// - [`Cause::Output`]: the output failed. It took a prefix of the text.
-    /// - [`Cause::Memory`]: an allocation failed. The output took nothing.
-    fn print<M: Segments, O: ByteOut>(
-        &self,
-        page: &mut Page,
-        out: &mut O,
-        number: u32,
-        vetted: &Vetted<'_, M>,
-    ) -> Result<Counted, Cause>;
-}
-
-/// What is counted of a message whose text was written, or the fault of the output.
-pub(crate) fn after_text(
-    written: Result<(), OutFault>,
-    counted: Counted,
-) -> Result<Counted, Cause> {
-    match written {
-        Ok(()) => Ok(counted),
-        Err(fault) => Err(Cause::Output(fault)),
-    }
-}
-
-/// What an engine does with a message that was read.
-pub(crate) trait Judge {
+/// What an engine writes about a message that was read.
+pub(crate) trait MessagePrinter {
     /// Writes the text of a message. What the page held before isn't written.
     ///
     /// # Errors
     ///
     /// - [`Cause::Output`]: the output failed. It took a prefix of the text.
     /// - [`Cause::Memory`]: an allocation failed. The output took nothing.
-    fn judge<M: Segments, O: ByteOut>(
+    fn print_message<M: Segments, O: ByteOut>(
         &self,
         page: &mut Page,
         out: &mut O,
+        before: u64,
         number: u32,
         message: &M,
     ) -> Result<Counted, Cause>;
-}
-
-/// Vets a message under demands, and writes the text of its teller if the message meets them.
-/// Otherwise it writes the first reason why not, and the place.
-#[derive(Clone, Copy)]
-struct Vetting<T> {
-    limits: Limits,
-    demands: Demands,
-    printer: T,
-}
-
-impl<T: Printer> Judge for Vetting<T> {
-    fn judge<M: Segments, O: ByteOut>(
-        &self,
-        page: &mut Page,
-        out: &mut O,
-        number: u32,
-        message: &M,
-    ) -> Result<Counted, Cause> {
-        match vet_with(message, self.limits, self.demands) {
-            Ok(vetted) => self.printer.print(page, out, number, &vetted),
-            Err(refusal) => {
-                let written = write_refused(page, out, number, &refusal);
-                after_text(written, Counted::Refused)
-            }
-        }
-    }
 }
 
 /// The message that was read last, and the page for its text.
@@ -90,12 +37,14 @@ pub(crate) struct MessageBuffers {
 
 /// Reads each message whole, and writes its text.
 #[derive(Clone, Copy)]
-struct Whole<J> {
+struct Whole<P> {
     alloc: Global,
-    judge: J,
+    /// Whether the words before each message are counted. Otherwise 0 stands for them.
+    counts: bool,
+    printer: P,
 }
 
-impl<J: Judge> Engine for Whole<J> {
+impl<P: MessagePrinter> Engine for Whole<P> {
     type Buffers = MessageBuffers;
 
     fn buffers(&self) -> MessageBuffers {
@@ -105,21 +54,26 @@ impl<J: Judge> Engine for Whole<J> {
         }
     }
 
+    #[inline(always)]
     fn print_next<S: WordSource, O: ByteOut>(
         &self,
         buffers: &mut MessageBuffers,
         source: &mut S,
         out: &mut O,
         limit: SizeLimit,
+        before: u64,
         number: u32,
-    ) -> Result<Option<Counted>, Cause> {
-        match read_into(self.alloc, source, limit, &mut buffers.message) {
+        at: &mut StreamBreak,
+    ) -> Result<Option<(Counted, u64)>, Cause> {
+        match read_next(self.alloc, source, limit, &mut buffers.message, at) {
             Ok(true) => {
+                let message = buffers.message.view();
+                let (place, words) = place_of(self.counts, before, &message);
                 match self
-                    .judge
-                    .judge(&mut buffers.page, out, number, &buffers.message.view())
+                    .printer
+                    .print_message(&mut buffers.page, out, place, number, &message)
                 {
-                    Ok(counted) => Ok(Some(counted)),
+                    Ok(counted) => Ok(Some((counted, words))),
                     Err(cause) => Err(cause),
                 }
             }
@@ -129,32 +83,63 @@ impl<J: Judge> Engine for Whole<J> {
     }
 }
 
-/// Reads each message of a stream whole, and writes the text that comes of it.
-pub(crate) fn judge_all<S: WordSource, O: ByteOut, J: Judge, F: Flushing<S>>(
-    alloc: Global,
-    source: &mut S,
-    out: &mut O,
-    settings: &Settings,
-    judge: J,
-    flushing: &F,
-) -> Result<Outcome, RunFault> {
-    print_all(source, out, settings, &Whole { alloc, judge }, flushing)
+/// The words of the stream before a message, and those of its frame. Both are 0 if they aren't
+/// counted.
+fn place_of<M: Segments>(counts: bool, before: u64, message: &M) -> (u64, u64) {
+    if counts {
+        return (before, frame_words(message));
+    }
+    (0, 0)
 }
 
-/// Vets each message of a stream, and writes the text of a teller for each that meets the demands.
-pub(crate) fn vet_all<S: WordSource, O: ByteOut, T: Printer, F: Flushing<S>>(
+/// Reads each message of a stream whole, and writes the text that comes of it, wherever the message
+/// begins.
+pub(crate) fn print_messages<S: WordSource, O: ByteOut, P: MessagePrinter, F: Flushing<S>>(
     alloc: Global,
     source: &mut S,
     out: &mut O,
     settings: &Settings,
-    demands: Demands,
-    printer: T,
+    printer: P,
     flushing: &F,
 ) -> Result<Outcome, RunFault> {
-    let vetting = Vetting {
-        limits: settings.limits,
-        demands,
+    let engine = Whole {
+        alloc,
+        counts: false,
         printer,
     };
-    judge_all(alloc, source, out, settings, vetting, flushing)
+    print_all(
+        source,
+        out,
+        settings,
+        &engine,
+        &mut no_break(false),
+        flushing,
+    )
+}
+
+/// Reads each message of a stream whole, and writes the text that comes of it, by where in the input
+/// the message begins. The error says what is known of a message that can't be read.
+pub(crate) fn explain_messages<S: WordSource, O: ByteOut, P: MessagePrinter, F: Flushing<S>>(
+    alloc: Global,
+    source: &mut S,
+    out: &mut O,
+    settings: &ExplainSettings,
+    printer: P,
+    flushing: &F,
+) -> Result<Outcome, ExplainedFault> {
+    let engine = Whole {
+        alloc,
+        counts: true,
+        printer,
+    };
+    let run = Settings {
+        limits: settings.limits,
+        size: settings.size,
+        messages: settings.messages,
+    };
+    let mut at = no_break(settings.packed);
+    match print_all(source, out, &run, &engine, &mut at, flushing) {
+        Ok(outcome) => Ok(outcome),
+        Err(fault) => Err(ExplainedFault { fault, at }),
+    }
 }

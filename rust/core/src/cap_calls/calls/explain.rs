@@ -8,7 +8,9 @@ use crate::cap_calls::limits::CallLimits;
 use crate::cap_calls::one_slice::OneSlice;
 use crate::cap_calls::over::Call;
 use crate::cap_calls::report::CallReport;
-use crate::cap_explain::{explain as explain_refusal, refusal_charge, Explanation, Numbers};
+use crate::cap_explain::{
+    cycle_level, explain as explain_refusal, numbers_of, Explanation, Numbers,
+};
 use crate::cap_frame::{ByteView, Segments};
 use crate::cap_spec::StrictRefusal;
 use crate::cap_trace::NamedPath;
@@ -118,28 +120,12 @@ fn explained<'b>(
     let mut path = NamedPath::new();
     path.find_refused(view, limits, &refusal);
     let within = limits_under(view, limits, demands);
-    let numbers = numbers_of(view, &refusal, within, has_table);
+    let cycle = cycle_level(view, &refusal, limits);
+    let numbers = numbers_of(view, &refusal, cycle, within, has_table, None);
     let count = put_lines(view, &refusal, numbers, &path, out);
     Found {
         count,
         ..Found::refused(refusal)
-    }
-}
-
-// The numbers of a message that is refused within limits, and isn't one of a stream.
-#[inline(never)]
-fn numbers_of<'b>(
-    view: &ByteView<'b>,
-    refusal: &StrictRefusal,
-    limits: Limits,
-    has_table: bool,
-) -> Numbers {
-    Numbers {
-        words: limits.words(),
-        depth: limits.depth(),
-        charge: refusal_charge(view, refusal, limits),
-        has_table,
-        start: None,
     }
 }
 

@@ -8,7 +8,7 @@ use crate::cap_vet::exclusiveness::exclusive_vetting::first_overlap;
 use crate::cap_vet::exclusiveness::marks::numbers_for;
 use crate::cap_vet::exclusiveness::overlap_turn::Overlap;
 use crate::cap_vet::nodes::vetted::Vetted;
-use crate::cap_vet::walk::vetting::Report;
+use crate::cap_walk::Report;
 
 /// Why a message isn't found exclusive with the caller's buffer.
 #[derive(Clone, Copy, Debug, PartialEq, Eq)]

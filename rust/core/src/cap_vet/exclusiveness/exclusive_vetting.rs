@@ -6,17 +6,14 @@ use crate::rattle::Vec;
 
 use crate::cap_frame::Segments;
 use crate::cap_spec::StrictRefusal;
-use crate::cap_vet::demands::{limits_under, unamplified_words, vet_with, Demands};
+use crate::cap_vet::demanded_vetting::vet_with;
 use crate::cap_vet::exclusiveness::exclusive::Exclusive;
 use crate::cap_vet::exclusiveness::marks::{fill_starts, numbers_for, Marks};
 use crate::cap_vet::exclusiveness::overlap_turn::{Overlap, OverlapSearch};
-use crate::cap_vet::limits::Limits;
 use crate::cap_vet::nodes::vetted::Vetted;
 use crate::cap_vet::strictness::path_strictness::strict_fault;
 use crate::cap_vet::strictness::strict_turn::{LaxPointer, LaxSearch};
-use crate::cap_vet::walk::turn::Stopped;
-use crate::cap_vet::walk::vetting::Report;
-use crate::cap_vet::walk::walking::walk;
+use crate::cap_walk::{limits_under, unamplified_words, walk, Demands, Limits, Report, Stopped};
 use crate::rattle::alloc::Global;
 use arrayvec::ArrayVec;
 

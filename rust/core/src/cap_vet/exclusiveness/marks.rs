@@ -1,10 +1,8 @@
 // crates/cap_vet/src/exclusiveness/marks.rt without its contracts, by tools/erase: that text is proved, this one is only tested.
 //! Which words of a message are marked, a bit for each.
 
-use crate::cap_frame::Segments;
-use crate::cap_ptr::{far_segment, kind, pad, two, Pointer};
-use crate::cap_vet::lengths::message_words;
-use crate::cap_vet::nodes::place::Place;
+use crate::cap_frame::{message_words, Segments};
+use crate::cap_ptr::{far_segment, kind, pad, two, Place, Pointer};
 use arrayvec::ArrayVec;
 
 /// The number of `u64`s that the marks of a message of `words` words take: one bit for each word of

@@ -2,10 +2,10 @@
 //! The turn of a walk that marks words, and looks for the first pointer that uses one twice.
 
 use crate::cap_frame::Segments;
+use crate::cap_ptr::Place;
 use crate::cap_vet::exclusiveness::marks::Marks;
-use crate::cap_vet::nodes::place::Place;
 use crate::cap_vet::strictness::strict_turn::LaxSearch;
-use crate::cap_vet::walk::turn::Turn;
+use crate::cap_walk::Turn;
 
 /// The first pointer in preorder that uses a word which is used already.
 #[derive(Clone, Copy)]

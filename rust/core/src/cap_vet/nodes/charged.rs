@@ -2,6 +2,7 @@
 //! Getters of messages that weren't vetted.
 
 use crate::cap_frame::Segments;
+use crate::cap_ptr::levels_of_elements;
 use crate::cap_spec::{Reason, Refusal, Step};
 use crate::cap_vet::nodes::budget::Budget;
 use crate::cap_vet::nodes::found::{element, found_of, Found};
@@ -9,8 +10,7 @@ use crate::cap_vet::nodes::spot::Spot;
 use crate::cap_vet::nodes::view::View;
 use crate::cap_vet::strictness::path_strictness::first_lax;
 use crate::cap_vet::strictness::strict_turn::LaxPointer;
-use crate::cap_vet::walk::looking::follow_within;
-use crate::cap_vet::walk::pointer_run::levels_of_elements;
+use crate::cap_walk::follow_within;
 
 /// Where the steps of a path have arrived so far.
 #[derive(Clone, Copy)]

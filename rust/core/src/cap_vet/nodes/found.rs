@@ -2,9 +2,8 @@
 //! What is at a spot, and where steps from there lead.
 
 use crate::cap_frame::Segments;
-use crate::cap_ptr::{follow, near_target, Followed, Shape, Target};
+use crate::cap_ptr::{follow, near_target, Followed, Place, Shape, Target};
 use crate::cap_spec::{Kind, Step};
-use crate::cap_vet::nodes::place::Place;
 use crate::cap_vet::nodes::spot::Spot;
 
 /// What is at a spot: its kind and its words. Null and a capability have no words, at 0:0.

@@ -3,14 +3,13 @@
 
 use crate::cap_frame::Segments;
 use crate::cap_spec::StrictRefusal;
-use crate::cap_vet::demands::{limits_under, Demands};
-use crate::cap_vet::limits::Limits;
 use crate::cap_vet::nodes::charged::{at_root, Arrival};
 use crate::cap_vet::nodes::near_arrival::at_root_near;
+use crate::cap_vet::nodes::path_end::PathEnd;
 use crate::cap_vet::nodes::step_source::StepSource;
 use crate::cap_vet::nodes::view::View;
-use crate::cap_vet::nodes::way::Way;
 use crate::cap_vet::strictness::path_strictness::strict_fault;
+use crate::cap_walk::{limits_under, Demands, Limits};
 
 /// Follows a path in a message that needn't be vetted, under demands, and gives what it arrives at
 /// (encoding: Security Considerations). The limits and demands are those of [`crate::vet_with`], and
@@ -48,31 +47,31 @@ fn given_within<'m, M: Segments, S: StepSource + Copy>(
     path: S,
 ) -> Result<Option<View<'m, M>>, StrictRefusal> {
     match follow_near(message, words, depth, path) {
-        Some(at) => given(message, demands, Way::To(at)),
+        Some(at) => given(message, demands, PathEnd::To(at)),
         None => given(message, demands, follow_any(message, words, depth, path)),
     }
 }
 
-/// What is given under demands where a path leads this way.
+/// What is given under demands for a path with this end.
 #[inline(always)]
 pub(crate) fn given<'m, M: Segments>(
     message: &'m M,
     demands: Demands,
-    way: Way,
+    end: PathEnd,
 ) -> Result<Option<View<'m, M>>, StrictRefusal> {
-    match way {
-        Way::To(at) => match strict_fault(message, demands, at.lax) {
+    match end {
+        PathEnd::To(at) => match strict_fault(message, demands, at.lax) {
             Some(fault) => Err(fault),
             None => Ok(Some(View {
                 message,
                 found: at.found,
             })),
         },
-        Way::Early(at) => match strict_fault(message, demands, at.lax) {
+        PathEnd::Early(at) => match strict_fault(message, demands, at.lax) {
             Some(fault) => Err(fault),
             None => Ok(None),
         },
-        Way::Refused(refusal) => Err(StrictRefusal::Refused(refusal)),
+        PathEnd::Refused(refusal) => Err(StrictRefusal::Refused(refusal)),
     }
 }
 
@@ -83,10 +82,10 @@ pub(crate) fn follow_path<M: Segments, S: StepSource + Copy>(
     words: u64,
     depth: u32,
     path: S,
-) -> Way {
+) -> PathEnd {
     // Such looks alone follow most paths, and they need no memory.
     match follow_near(message, words, depth, path) {
-        Some(at) => Way::To(at),
+        Some(at) => PathEnd::To(at),
         None => follow_any(message, words, depth, path),
     }
 }
@@ -117,10 +116,10 @@ fn follow_any<M: Segments, S: StepSource + Copy>(
     words: u64,
     depth: u32,
     path: S,
-) -> Way {
+) -> PathEnd {
     match at_root(message, words, depth) {
         Ok(root) => along(message, words, depth, root, path),
-        Err(refusal) => Way::Refused(refusal),
+        Err(refusal) => PathEnd::Refused(refusal),
     }
 }
 
@@ -132,15 +131,15 @@ pub(crate) fn along<M: Segments, S: StepSource + Copy>(
     depth: u32,
     from: Arrival,
     rest: S,
-) -> Way {
+) -> PathEnd {
     let mut left = rest;
     let mut at = from;
     while let Some(step) = left.next_step() {
         match at.step(message, words, depth, step) {
             Ok(Some(next)) => at = next,
-            Ok(None) => return Way::Early(at),
-            Err(refusal) => return Way::Refused(refusal),
+            Ok(None) => return PathEnd::Early(at),
+            Err(refusal) => return PathEnd::Refused(refusal),
         }
     }
-    Way::To(at)
+    PathEnd::To(at)
 }

@@ -2,12 +2,9 @@
 //! What a pointer on a path leads to, where the pointer word describes it.
 
 use crate::cap_frame::Segments;
-use crate::cap_ptr::{near_target, Target};
+use crate::cap_ptr::{levels_taken, near_target, struct_list, Place, Target};
 use crate::cap_spec::Kind;
 use crate::cap_vet::nodes::found::{object, Found};
-use crate::cap_vet::nodes::place::Place;
-use crate::cap_vet::walk::looking::struct_list;
-use crate::cap_vet::walk::pointer_run::levels_taken;
 
 /// What word `w` of segment `s` leads to, and its charge, where `left` words may still be charged and its target
 /// has this level. Returns a result only if the word is null, or describes its object, alone or with

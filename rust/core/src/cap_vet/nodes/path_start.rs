@@ -3,14 +3,13 @@
 
 use crate::cap_frame::Segments;
 use crate::cap_spec::{Kind, Step, StrictRefusal};
-use crate::cap_vet::demands::{limits_under, Demands};
-use crate::cap_vet::limits::Limits;
 use crate::cap_vet::nodes::getting::{along, follow_path, given};
+use crate::cap_vet::nodes::path_end::PathEnd;
 use crate::cap_vet::nodes::step_source::StepSource;
 use crate::cap_vet::nodes::struct_elements::StructElements;
 use crate::cap_vet::nodes::view::View;
-use crate::cap_vet::nodes::way::Way;
 use crate::cap_vet::strictness::path_strictness::strict_fault;
+use crate::cap_walk::{limits_under, Demands, Limits};
 use crate::rattle::alloc::AllocError;
 
 /// The first steps of several paths in a message that needn't be vetted, and where they lead
@@ -21,7 +20,7 @@ pub struct PathStart<'m, M: Segments> {
     // The limits under the demands.
     words: u64,
     depth: u32,
-    way: Way,
+    end: PathEnd,
 }
 
 impl<'m, M: Segments> Clone for PathStart<'m, M> {
@@ -49,14 +48,14 @@ impl<'m, M: Segments> PathStart<'m, M> {
             demands,
             words,
             depth,
-            way: follow_path(message, words, depth, first),
+            end: follow_path(message, words, depth, first),
         }
     }
 
     /// The elements of the list of structs that the first steps lead to. After `None` they lead to no
     /// such list, or to none without a fault: [`PathStart::get`] then has to decide. Allocates nothing.
     pub fn elements(&self) -> Option<StructElements<'m, M>> {
-        let at = if let Way::To(at) = self.way {
+        let at = if let PathEnd::To(at) = self.end {
             at
         } else {
             return None;
@@ -99,15 +98,15 @@ impl<'m, M: Segments> PathStart<'m, M> {
         step: Step,
         rest: S,
     ) -> Result<Option<View<'m, M>>, StrictRefusal> {
-        let way = match self.way {
-            Way::To(at) => match at.step(self.message, self.words, self.depth, step) {
+        let end = match self.end {
+            PathEnd::To(at) => match at.step(self.message, self.words, self.depth, step) {
                 Ok(Some(next)) => along(self.message, self.words, self.depth, next, rest),
-                Ok(None) => Way::Early(at),
-                Err(refusal) => Way::Refused(refusal),
+                Ok(None) => PathEnd::Early(at),
+                Err(refusal) => PathEnd::Refused(refusal),
             },
-            Way::Early(at) => Way::Early(at),
-            Way::Refused(refusal) => Way::Refused(refusal),
+            PathEnd::Early(at) => PathEnd::Early(at),
+            PathEnd::Refused(refusal) => PathEnd::Refused(refusal),
         };
-        given(self.message, self.demands, way)
+        given(self.message, self.demands, end)
     }
 }

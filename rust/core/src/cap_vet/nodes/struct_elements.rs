@@ -1,8 +1,7 @@
 // crates/cap_vet/src/nodes/struct_elements.rt without its contracts, by tools/erase: that text is proved, this one is only tested.
 //! The elements of a list of structs at which paths go on.
 
-use crate::cap_frame::Segments;
-use crate::cap_vet::lengths::words_before;
+use crate::cap_frame::{words_before, Segments};
 use crate::cap_vet::nodes::found::{element, Found};
 use crate::cap_vet::nodes::near_found::found_near;
 use crate::cap_vet::nodes::view::View;

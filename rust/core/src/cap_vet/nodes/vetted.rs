@@ -5,7 +5,7 @@ use crate::cap_frame::Segments;
 use crate::cap_spec::Step;
 use crate::cap_vet::nodes::node::Node;
 use crate::cap_vet::nodes::spot::Spot;
-use crate::cap_vet::walk::vetting::Report;
+use crate::cap_walk::Report;
 use crate::rattle::alloc::AllocError;
 
 /// A message whose root denotes one finite tree, of the reported numbers, within the greatest limits:

@@ -1,12 +1,10 @@
 // crates/cap_vet/src/nodes/view.rt without its contracts, by tools/erase: that text is proved, this one is only tested.
 //! A view of a value in a message.
 
-use crate::cap_frame::{ByteView, Segments};
-use crate::cap_ptr::element_bits;
+use crate::cap_frame::{words_before, ByteView, Segments};
+use crate::cap_ptr::{element_bits, Place};
 use crate::cap_spec::Kind;
-use crate::cap_vet::lengths::words_before;
 use crate::cap_vet::nodes::found::Found;
-use crate::cap_vet::nodes::place::Place;
 use crate::cap_words::{bits, bytes_of};
 use crate::rattle::alloc::AllocError;
 

@@ -3,9 +3,9 @@
 
 use crate::cap_frame::Segments;
 use crate::cap_spec::StrictRefusal;
-use crate::cap_vet::demands::Demands;
 use crate::cap_vet::strictness::lax::lax_form;
 use crate::cap_vet::strictness::strict_turn::LaxPointer;
+use crate::cap_walk::Demands;
 
 /// The most segments that common readers take.
 const MOST_SEGMENTS: u32 = 511;

@@ -2,10 +2,10 @@
 //! The turn of a walk that looks for pointers which common readers reject.
 
 use crate::cap_frame::Segments;
+use crate::cap_ptr::Place;
 use crate::cap_spec::Lax;
-use crate::cap_vet::nodes::place::Place;
 use crate::cap_vet::strictness::lax::lax_form;
-use crate::cap_vet::walk::turn::Turn;
+use crate::cap_walk::Turn;
 use core::convert::Infallible;
 
 /// The first pointer that common readers reject.

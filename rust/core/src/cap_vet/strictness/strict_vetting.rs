@@ -3,15 +3,11 @@
 
 use crate::cap_frame::Segments;
 use crate::cap_spec::StrictRefusal;
-use crate::cap_vet::demands::Demands;
-use crate::cap_vet::limits::Limits;
 use crate::cap_vet::nodes::vetted::Vetted;
 use crate::cap_vet::strictness::path_strictness::strict_fault;
 use crate::cap_vet::strictness::strict::Strict;
 use crate::cap_vet::strictness::strict_turn::LaxSearch;
-use crate::cap_vet::walk::turn::Stopped;
-use crate::cap_vet::walk::vetting::Report;
-use crate::cap_vet::walk::walking::walk;
+use crate::cap_walk::{walk, Demands, Limits, Report, Stopped};
 
 /// Vets a message, and accepts it if it is also strict (profile). Then it has at most 511 segments,
 /// and no path reaches a pointer of a form in [`crate::Lax`]. Walks once. Allocates nothing.

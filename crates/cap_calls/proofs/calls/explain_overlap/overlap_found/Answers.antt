@@ -1,7 +1,7 @@
 -- The lines of a pointer that has a path, or that it has none.
 use Rattle.std.proofs.Common.{ap, arith, refl, subst, sym}
 use Rattle.cap_trace.specs.NamedPaths.{IsTraced}
-use Rattle.cap_vet.specs.Limits.{depth_of}
+use Rattle.cap_walk.specs.Limits.{depth_of}
 use Rattle.cap_calls.specs.OverlapCalls.{explained, none}
 use Rattle.cap_calls.specs.CallNames.{Found}
 use Rattle.cap_calls.proofs.calls.explain_overlap.overlap_found.Goals as goal

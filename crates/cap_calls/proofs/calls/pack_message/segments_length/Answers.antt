@@ -42,8 +42,5 @@ segments-preserved c =
       small = omega (arith, far.small, c.pack_into-total.ensures.few, long, short);
     }
 
-pub returns-clause-text : goal.returns-clause-text
-returns-clause-text c = search (rules, take_all)
-
-pub returns-clause-few : goal.returns-clause-few
-returns-clause-few c = search (rules, take_all)
+pub returns : goal.returns
+returns c = search (rules, take_all)

@@ -1,7 +1,7 @@
 -- One extent more is written.
 use Rattle.std.proofs.Common.{ap, ap₂, arith, length, refl, ℕ, ◌*◌, ◌<◌, ◌∙◌}
 use Rattle.cap_frame.specs.Bytes.{cut}
-use Rattle.cap_vet.proofs.Ranges.{start_next}
+use Rattle.cap_frame.proofs.SegmentStarts.{start_next}
 use Rattle.cap_calls.specs.declared.extent.CallExtent.{CallExtent}
 use Rattle.cap_calls.proofs.Extents.{more_written}
 use Rattle.cap_calls.proofs.calls.segments.write_extents.Goals as goal

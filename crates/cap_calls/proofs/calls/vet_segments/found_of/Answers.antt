@@ -1,8 +1,8 @@
 -- What is found of the message.
 use Rattle.cap_spec.proofs.ProofNames.{List, ap, ap₂, length, refl, subst, sum, ℕ, ◌*◌, ◌∙◌, ◌≡◌, ⊤, sizes_of}
-use Rattle.cap_vet.specs.Limits.{depth_of, words_of}
+use Rattle.cap_walk.specs.Limits.{depth_of, words_of}
 use Rattle.cap_calls.specs.CallNames.{Demands, Judges, IsGood, message, AreSegments, ReportsNoSegments}
-use Rattle.cap_calls.specs.CallNames.{segments_in, words_in}
+use Rattle.cap_calls.specs.CallNames.{segments_in, words_of_slices}
 use Rattle.cap_calls.specs.CallFindings.{extent_found}
 use Rattle.cap_calls.specs.SegmentsCalls.{no_message}
 use Rattle.cap_calls.specs.Slices.{bytes_of}
@@ -20,7 +20,7 @@ returns-in-Ok c =
     c.in-Some.ensures.walk.0 seen in
     let deep = subst (λ (d : ℕ). Judges c.demands.result ⊤ IsGood (segments_in parts) l.charge d g) c.in-Some.ensures.walk.1 charged in
     let asked = subst (λ (d : Demands). Judges d ⊤ IsGood (segments_in parts) l.charge l.depth g) c.demands.ensures deep in
-    let words : c.words-words.result ≡ words_in parts =
+    let words : c.words-words.result ≡ words_of_slices parts =
     c.words-words.ensures ∙ ap (λ (m : List (List ℕ)). sum (sizes_of m)) c.in-Ok.ensures.segments in
     let many : c.count.result ≡ length (segments_in parts) =
     c.count.ensures ∙ ap (λ (m : List (List ℕ)). length m) c.in-Ok.ensures.segments in
@@ -28,7 +28,7 @@ returns-in-Ok c =
     message (c.in-Some.ensures.some.0 refl) (subst (λ (n : ℕ). AreSegments n parts) c.in-Some.ensures.size c.in-Ok.ensures.whole) g
     asked
     (c.extent.ensures ∙ (ap₂ (λ (x y : ℕ). extent_found (8 * x) y x c.charge_limit-limit.result g) words many
-    ∙ ap (λ (k : ℕ). extent_found (8 * words_in parts) (length (segments_in parts)) (words_in parts) k g) limit))
+    ∙ ap (λ (k : ℕ). extent_found (8 * words_of_slices parts) (length (segments_in parts)) (words_of_slices parts) k g) limit))
 
 pub returns-in-Err : goal.returns-in-Err
 returns-in-Err c =

@@ -10,8 +10,5 @@ unwrap-requires g c = search (rules, range_length, length_plain, words_exact)
 pub invariant_of-self : goal.invariant_of-self
 invariant_of-self g c = search (rules, range_length, length_plain, words_exact, length-append)
 
-pub returns-in-Some-clause-words : goal.returns-in-Some-clause-words
-returns-in-Some-clause-words g c = search (rules, recursion_from_All, row_joined)
-
-pub returns-in-Some-clause-are_words : goal.returns-in-Some-clause-are_words
-returns-in-Some-clause-are_words g c = search (rules, recursion_from_All)
+pub returns-in-Some : goal.returns-in-Some
+returns-in-Some g c = search (rules, recursion_from_All, row_joined)

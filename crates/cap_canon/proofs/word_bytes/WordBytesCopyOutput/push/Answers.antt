@@ -6,11 +6,8 @@ use Rattle.cap_canon.proofs.word_bytes.WordBytesCopyOutput.push.Goals as goal
 pub write_word-requires : goal.write_word-requires
 write_word-requires c = search (rules, first_words_count, words_exact)
 
-pub returns-clause-words : goal.returns-clause-words
-returns-clause-words c = search (rules, first_words_count, words_exact, word_appended)
+pub returns : goal.returns
+returns c = search (rules, first_words_count, words_exact, word_appended)
 
 pub invariant_of-self : goal.invariant_of-self
 invariant_of-self c = search (rules, first_words_count, words_exact)
-
-pub returns-clause-after : goal.returns-clause-after
-returns-clause-after c = search (rules, first_words_count, words_exact)

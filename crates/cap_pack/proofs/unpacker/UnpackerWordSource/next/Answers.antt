@@ -1,5 +1,5 @@
 use Rattle.cap_spec.proofs.ProofNames.{[], ap, arith, refl, sym, ◌-◌, ◌∙◌, Consumes-nil}
-use Rattle.cap_words.specs.declared.ends.Phase.TheVariants.{Ended}
+use Rattle.cap_words.specs.declared.byte_io.Phase.TheVariants.{Ended}
 use Rattle.cap_pack.specs.Course.{ends}
 use Rattle.cap_pack.specs.State.{ahead}
 use Rattle.cap_pack.proofs.Steps.{given_rest, given_words, left_cut, left_none, no_group, none_words, word_cut_step}

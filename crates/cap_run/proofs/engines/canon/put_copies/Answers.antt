@@ -16,4 +16,4 @@ loop-number-preserved g c =
 
 pub returns : goal.returns
 returns g c =
-    making_ends (omega (arith, c.loop-number-test.false, c.loop-number.auto.number-end)) c.loop-number.invariant c.end_stream.ensures.ok c.end_stream.ensures.err
+    making_ends (omega (arith, c.loop-number-test.false, c.loop-number.auto.number-end)) c.loop-number.invariant c.end_stream-end.ensures.ok c.end_stream-end.ensures.err

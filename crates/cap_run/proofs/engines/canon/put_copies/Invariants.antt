@@ -1,5 +1,5 @@
 use Rattle.cap_frame.specs.Limit.{limit_of}
-use Rattle.cap_vet.specs.Limits.{depth_of, words_of}
+use Rattle.cap_walk.specs.Limits.{depth_of, words_of}
 use Rattle.cap_run.specs.Making.{CopiesSoFar}
 use Rattle.cap_run.proofs.engines.canon.put_copies.Given as goal
 

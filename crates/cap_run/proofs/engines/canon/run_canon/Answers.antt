@@ -1,6 +1,6 @@
 use Rattle.std.proofs.Common.{subst}
 use Rattle.cap_frame.specs.Limit.{limit_of}
-use Rattle.cap_vet.specs.Limits.{depth_of, words_of}
+use Rattle.cap_walk.specs.Limits.{depth_of, words_of}
 use Rattle.cap_run.specs.RunNames.{Demands, MakesCopiesUnder}
 use Rattle.cap_run.proofs.Demanding.{default_none}
 use Rattle.cap_run.proofs.engines.canon.run_canon.Goals as goal

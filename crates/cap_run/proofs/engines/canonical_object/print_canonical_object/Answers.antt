@@ -1,7 +1,7 @@
 use Rattle.cap_spec.proofs.ProofNames.{List, ap, most_depth, most_words, subst, ℕ, ◌++◌, ◌∙◌}
 use Rattle.cap_vet.specs.VetNames.{depth_of, words_of}
 use Rattle.cap_vet.specs.Vettings.{message_of}
-use Rattle.cap_vet.specs.declared.walk.vetting.Report.{Report}
+use Rattle.cap_walk.specs.declared.report.Report.{Report}
 use Rattle.cap_text.specs.JsonLines.{accepted_json}
 use Rattle.cap_text.specs.Writing.{Writes}
 use Rattle.cap_run.specs.Differing.{IsDifference, difference_members}

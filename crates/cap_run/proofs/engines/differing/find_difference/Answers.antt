@@ -1,6 +1,6 @@
 use Rattle.cap_spec.proofs.ProofNames.{subst, ℕ}
 use Rattle.cap_trace.specs.NamedPaths.{IsTraced}
-use Rattle.cap_vet.specs.Limits.{depth_of}
+use Rattle.cap_walk.specs.Limits.{depth_of}
 use Rattle.cap_run.specs.Differing.{number_by}
 use Rattle.cap_run.proofs.Differing.{difference_named}
 use Rattle.cap_run.proofs.engines.differing.find_difference.Goals as goal

@@ -1,6 +1,6 @@
 use Rattle.cap_spec.proofs.ProofNames.{subst}
 use Rattle.cap_vet.specs.VetNames.{IsDemandFault, Meets, depth_of, words_of}
-use Rattle.cap_vet.specs.declared.demands.Demands.{Demands}
+use Rattle.cap_walk.specs.declared.demands.Demands.{Demands}
 use Rattle.cap_run.proofs.engines.explain.filter_refusal.Goals as goal
 
 pub returns-in-Ok : goal.returns-in-Ok

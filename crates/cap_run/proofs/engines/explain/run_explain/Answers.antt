@@ -1,6 +1,12 @@
-use Rattle.cap_run.proofs.Placed.{placed_allocates}
+use Rattle.std.proofs.Common.{true}
+use Rattle.cap_run.specs.Reporting.{AllocatesNone}
+use Rattle.cap_run.proofs.Demanding.{allocates_as}
 use Rattle.cap_run.proofs.engines.explain.run_explain.Goals as goal
-use Rattle.cap_spec.proofs.ProofNames.{rules}
 
 pub returns : goal.returns
-returns g c = search (rules, placed_allocates)
+returns g c =
+    let e = c.explain_messages.ensures in
+    record {
+      reported = allocates_as g.S.WordSource g.O.ByteOut true _ _ _ _ _ _ _ _ AllocatesNone (λ m h. h.1) _ e.reported;
+      broken = e.broken;
+    }

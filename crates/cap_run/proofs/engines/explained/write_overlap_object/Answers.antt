@@ -30,7 +30,7 @@ returns g c = λ words a f reason.
     (sym (c.text.ensures.lines ∙ c.overlap_lines-lines.ensures))
     (true_gives m words (depth_of c.args.limits) s w (overlap_explanation None m None s w) reason)) in
     let named = c.find.ensures.overlap words s w a f in
-    let text = ap (λ path. explained_json n verdict path c.last_reason-sentence.result.now) (c.steps.ensures ∙ named)
-    ∙ ap (λ (s : List ℕ). explained_json n verdict (Some f.path) s) said in
+    let text = ap (λ path. explained_json n verdict path c.last_reason-sentence.result.now None) (c.steps.ensures ∙ named)
+    ∙ ap (λ (s : List ℕ). explained_json n verdict (Some f.path) s None) said in
     subst (λ (t : List ℕ). Writes g.O.ByteOut c.args.out.now c.write_explained_overlap_json.new.out c.write_explained_overlap_json.result t)
     text c.write_explained_overlap_json.ensures

@@ -16,7 +16,7 @@ pub returns-then-ends_after-clause-ok : goal.returns-then-ends_after-clause-ok
 returns-then-ends_after-clause-ok g c =
     let e = c.in-Ok-Some.field-0-is in
     sieving_last c.loop-number.invariant c.sift_next.new.source c.sift_next.new.out c.sift_next.new.log
-    c.count-outcome.result c.sift_next.new.buffers.passage.failed c.sift_next.new.buffers.passage.waits c.in-Ok-Some.counted
+    c.count-outcome.result c.sift_next.new.buffers.state.failed c.sift_next.new.buffers.state.waits c.in-Ok-Some.counted
     (c.in-Ok-Some.ensures.some c.in-Ok-Some.counted (cc)) c.count-outcome.ensures
     c.args.settings.now.messages (omega arith) (c.ends_after.ensures.yes c.if-ends_after.true)
 
@@ -30,12 +30,12 @@ returns-in-Ok-None-clause-ok g c =
 pub returns-in-Err-clause-err : goal.returns-in-Err-clause-err
 returns-in-Err-clause-err g c =
     sieving_stops c.loop-number.invariant c.sift_next.new.source c.sift_next.new.out c.sift_next.new.log
-    c.sift_next.new.buffers.passage.failed c.sift_next.new.buffers.passage.waits c.args.settings.now.messages c.in-Err.cause (omega arith) c.in-Err.ensures.err
+    c.sift_next.new.buffers.state.failed c.sift_next.new.buffers.state.waits c.args.settings.now.messages c.in-Err.cause (omega arith) c.in-Err.ensures.err
 
 pub loop-number-preserved : goal.loop-number-preserved
 loop-number-preserved g c =
     let e = c.in-Ok-Some.field-0-is in
     sieving_more c.loop-number.invariant c.sift_next.new.source c.sift_next.new.out c.sift_next.new.log
-    c.count-outcome.result c.sift_next.new.buffers.passage.failed c.sift_next.new.buffers.passage.waits c.in-Ok-Some.counted
+    c.count-outcome.result c.sift_next.new.buffers.state.failed c.sift_next.new.buffers.state.waits c.in-Ok-Some.counted
     (c.in-Ok-Some.ensures.some c.in-Ok-Some.counted (cc)) c.count-outcome.ensures
     (c.ends_after.ensures.no c.if-ends_after.false)

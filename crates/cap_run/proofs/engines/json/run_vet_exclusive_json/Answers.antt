@@ -1,4 +1,4 @@
 use Rattle.cap_run.proofs.engines.json.run_vet_exclusive_json.Goals as goal
 
 pub returns : goal.returns
-returns g c = c.judge_all.ensures
+returns g c = c.print_messages.ensures

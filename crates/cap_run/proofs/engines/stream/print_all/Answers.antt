@@ -10,6 +10,6 @@ returns-clause-reported g c =
       ok = e.ok;
       err = e.err;
       whole = λ own ms.
-          settled g.S.WordSource g.O.ByteOut (g.E.Engine.reports c.args.engine.now) (limit_of c.args.settings.now.size) c.args.settings.now.messages
+          settled g.S.WordSource g.O.ByteOut (g.E.Engine.counts c.args.engine.now) (g.E.Engine.reports c.args.engine.now) (limit_of c.args.settings.now.size) c.args.settings.now.messages
           c.args.source.now c.print_each.new.source c.args.out.now c.print_each.new.out (g.E.Engine.allocates c.args.engine.now) c.print_each.result own ms e.ok e.err;
     }

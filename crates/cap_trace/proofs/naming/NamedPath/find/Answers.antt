@@ -1,5 +1,5 @@
 use Rattle.std.proofs.Common.{arith, length, ◌≤◌}
-use Rattle.cap_vet.specs.Limits.{depth_of}
+use Rattle.cap_walk.specs.Limits.{depth_of}
 use Rattle.cap_trace.proofs.Named.{path_taken, traced_taken}
 use Rattle.cap_trace.proofs.naming.NamedPath.find.Goals as goal
 

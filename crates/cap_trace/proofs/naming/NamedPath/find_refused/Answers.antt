@@ -1,4 +1,4 @@
-use Rattle.cap_vet.specs.Limits.{depth_of}
+use Rattle.cap_walk.specs.Limits.{depth_of}
 use Rattle.cap_trace.proofs.Named.{path_named}
 use Rattle.cap_trace.proofs.naming.NamedPath.find_refused.Goals as goal
 

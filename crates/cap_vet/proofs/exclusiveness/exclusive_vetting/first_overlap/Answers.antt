@@ -1,11 +1,11 @@
 use Rattle.cap_vet.proofs.MarkingWalk.{ends_marking}
-use Rattle.cap_vet.proofs.OneReport.{not_both_within}
+use Rattle.cap_walk.proofs.OneReport.{not_both_within}
 use Rattle.cap_vet.proofs.exclusiveness.exclusive_vetting.first_overlap.Goals as goal
 
 pub returns-in-Ok : goal.returns-in-Ok
 returns-in-Ok g c =
-    let w = c.in-Ok.ensures.ok in
-    ends_marking _ w.seen w.ahead c.in-Ok.firsts.overlap w.walks w.known.0
+    let k = c.in-Ok.ensures.ok.1 in
+    ends_marking _ k.0 c.in-Ok.firsts.overlap k.1 k.2.0
 
 pub unreachable-requires : goal.unreachable-requires
 unreachable-requires g c =

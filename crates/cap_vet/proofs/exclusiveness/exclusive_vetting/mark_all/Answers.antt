@@ -9,10 +9,13 @@ mark_words-requires g c =
 pub walk-requires : goal.walk-requires
 walk-requires g c =
     let m = g.M.Segments.segments c.args.message.now in
-    let marked = c.mark_words.ensures m (record { fits = c.requires.fits; exists = search rules; inside = omega (arith, c.requires.root) }) in (
-      record { fits = marked.fits; marked = root_marked m _ _ c.requires.none (marked.taken c.if-not-mark_words.false) },
-      λ p one. absurd one,
-    )
+    let marked = c.mark_words.ensures m (record { fits = c.requires.fits; exists = search rules; inside = omega (arith, c.requires.root) }) in
+    record {
+      begins = (
+        record { fits = marked.fits; marked = root_marked m _ _ c.requires.none (marked.taken c.if-not-mark_words.false) },
+        λ p one. absurd one,
+      );
+    }
 
 pub returns-in-Ok-clause-ok : goal.returns-in-Ok-clause-ok
 returns-in-Ok-clause-ok g c = search rules

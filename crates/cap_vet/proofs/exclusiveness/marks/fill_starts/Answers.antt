@@ -1,5 +1,6 @@
 use Rattle.cap_spec.proofs.ProofNames.{rules}
-use Rattle.cap_vet.proofs.Ranges.{start_next, starts_more}
+use Rattle.cap_frame.proofs.SegmentStarts.{start_next}
+use Rattle.cap_vet.proofs.Ranges.{starts_more}
 use Rattle.cap_vet.proofs.exclusiveness.marks.fill_starts.Goals as goal
 
 pub loop-s-preserved : goal.loop-s-preserved

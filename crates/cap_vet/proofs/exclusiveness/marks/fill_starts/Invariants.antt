@@ -1,5 +1,5 @@
 use Rattle.std.proofs.Common.{length, slice_index_or, ℕ, ◌*◌, ◌<◌, ◌^◌, ◌≡◌, ◌≤◌}
-use Rattle.cap_vet.specs.Taken.{start_of}
+use Rattle.cap_frame.specs.SegmentStarts.{start_of}
 use Rattle.cap_vet.proofs.exclusiveness.marks.fill_starts.Given as goal
 
 abbrev pub invariant-loop-s : goal.invariant-loop-s

@@ -1,8 +1,8 @@
 use Rattle.cap_spec.proofs.Frames.Messages.{HasWord-at}
 use Rattle.cap_spec.proofs.ProofNames.{arith, inr, length, rules, ℕ, ◌<◌, HasWord, segment_of}
 use Rattle.cap_vet.proofs.Charging.{arrives_root, fault_root}
-use Rattle.cap_vet.proofs.Looks.{followed_costs, followed_shallow}
-use Rattle.cap_vet.proofs.Verdicts.{no_root_at}
+use Rattle.cap_walk.proofs.Looks.{followed_costs, followed_shallow}
+use Rattle.cap_walk.proofs.Verdicts.{no_root_at}
 use Rattle.cap_vet.proofs.nodes.charged.at_root.Goals as goal
 
 pub returns-then-len-eq0-clause-err : goal.returns-then-len-eq0-clause-err

@@ -1,13 +1,13 @@
 -- The path is followed step by step.
 use Rattle.std.proofs.Math.Logic.{∥∥₁_map}
 use Rattle.cap_vet.specs.VetNames.{Step, Arrives}
-use Rattle.cap_vet.proofs.PathWays.{all_steps, done_steps, step_no_node, step_refused}
+use Rattle.cap_vet.proofs.GivenPaths.{all_steps, done_steps, step_no_node, step_refused}
 use Rattle.cap_vet.proofs.AtSomePlace.{arrival_few, arrival_levels}
 use Rattle.cap_vet.proofs.StepsGiven.{no_step_given, step_given}
 use Rattle.cap_vet.proofs.nodes.getting.along.Goals as goal
 use Rattle.cap_spec.proofs.ProofNames.{rules, List, [], ap, append-nil, append_assoc, refl, subst, sym, ◌++◌, ◌∙◌}
 use Rattle.cap_spec.proofs.ProofNames.{◌∷◌}
-use Rattle.cap_vet.specs.Ways.{SomeArrives}
+use Rattle.cap_vet.specs.PathEnds.{SomeArrives}
 
 pub loop-step-init : goal.loop-step-init
 loop-step-init g c =
@@ -41,8 +41,8 @@ loop-step-preserved g c =
           (n.0, k.1 ∙ ap (λ (ss : List Step). h.0 ++ ss) n.1 ∙ sym (append_assoc h.0 (step ∷ []) n.0), n.2),
     )
 
-pub returns-in-Ok-None-clause-way : goal.returns-in-Ok-None-clause-way
-returns-in-Ok-None-clause-way g c = λ first steps a arrives left.
+pub returns-in-Ok-None-clause-end : goal.returns-in-Ok-None-clause-end
+returns-in-Ok-None-clause-end g c = λ first steps a arrives left.
     let h = c.loop-step.invariant in
     let step = c.in-Some.step in
     let x = h.1 first a arrives in
@@ -52,8 +52,8 @@ returns-in-Ok-None-clause-way g c = λ first steps a arrives left.
     let none = rw c.in-Ok-None.field-0-is at (c.in-Ok-None.ensures.none (first ++ h.0) x.0 x.1) in
     search (rules, all_steps, step_no_node)
 
-pub returns-in-Err-clause-way : goal.returns-in-Err-clause-way
-returns-in-Err-clause-way g c = λ first steps a arrives left.
+pub returns-in-Err-clause-end : goal.returns-in-Err-clause-end
+returns-in-Err-clause-end g c = λ first steps a arrives left.
     let h = c.loop-step.invariant in
     let step = c.in-Some.step in
     let x = h.1 first a arrives in
@@ -63,8 +63,8 @@ returns-in-Err-clause-way g c = λ first steps a arrives left.
     rw (← all_steps first h.0 steps k.0 n.0 step k.1 n.1)
     (step_refused (first ++ h.0) n.0 step (c.in-Err.ensures.err (first ++ h.0) x.0 x.1))
 
-pub returns-clause-way : goal.returns-clause-way
-returns-clause-way g c = λ first steps a arrives left.
+pub returns-clause-end : goal.returns-clause-end
+returns-clause-end g c = λ first steps a arrives left.
     let h = c.loop-step.invariant in
     let x = h.1 first a arrives in
     let k = h.2 steps left in

@@ -1,11 +1,11 @@
 -- The path is followed by looks alone.
 use Rattle.cap_spec.proofs.ProofNames.{List, [], ap, append_assoc, arith, sym, ◌++◌, ◌∙◌, ◌∷◌, rules, common_steps}
 use Rattle.cap_vet.specs.VetNames.{Step}
-use Rattle.cap_vet.proofs.PathWays.{done_steps}
+use Rattle.cap_vet.proofs.GivenPaths.{done_steps}
 use Rattle.cap_vet.proofs.AtSomePlace.{arrival_few, arrival_levels}
 use Rattle.cap_vet.proofs.StepsGiven.{no_step_given, step_given}
 use Rattle.cap_vet.proofs.nodes.getting.follow_near.Goals as goal
-use Rattle.cap_vet.specs.Ways.{SomeArrives}
+use Rattle.cap_vet.specs.PathEnds.{SomeArrives}
 
 pub step_near-requires : goal.step_near-requires
 step_near-requires g c =
@@ -27,8 +27,8 @@ loop-step-preserved g c =
       c.in-Some-step_near.ensures.strict,
     )
 
-pub returns-clause-way : goal.returns-clause-way
-returns-clause-way g c = λ steps left.
+pub returns-clause-end : goal.returns-clause-end
+returns-clause-end g c = λ steps left.
     let h = c.loop-step.invariant in
     let k = h.2 steps left in
     let none = no_step_given g.S.StepSource.gives c.loop-step.left c.next_step.new.self c.next_step.result k.0 c.in_default.is c.next_step.ensures.some k.2 in

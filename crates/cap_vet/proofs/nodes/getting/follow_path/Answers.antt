@@ -1,4 +1,4 @@
--- A look at each pointer shows the way, or else the path is followed.
+-- A look at each pointer shows where the path ends, or else the path is followed.
 use Rattle.std.proofs.Math.Logic.{∥∥₁_map}
 use Rattle.cap_vet.proofs.nodes.getting.follow_path.Goals as goal
 

@@ -1,6 +1,6 @@
 -- What is given within the limits is given under the demands.
-use Rattle.cap_vet.specs.Limits.{depth_of, words_of}
-use Rattle.cap_vet.proofs.PathWays.{given_accepts, given_refuses}
+use Rattle.cap_walk.specs.Limits.{depth_of, words_of}
+use Rattle.cap_vet.proofs.GivenPaths.{given_accepts, given_refuses}
 use Rattle.cap_vet.proofs.nodes.getting.get_with.Goals as goal
 use Rattle.cap_spec.proofs.ProofNames.{rules, ◌∙◌, List}
 use Rattle.cap_vet.specs.VetNames.{Step}

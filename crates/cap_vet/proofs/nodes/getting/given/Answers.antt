@@ -1,7 +1,7 @@
 -- What is given where the path leads.
 use Rattle.cap_spec.proofs.ProofNames.{refl, rules, IsMessage}
-use Rattle.cap_vet.proofs.PathWays.{nothing_given, no_node_fault_given, refusal_given, something_given}
-use Rattle.cap_vet.proofs.PathWays.{to_fault_given}
+use Rattle.cap_vet.proofs.GivenPaths.{nothing_given, no_node_fault_given, refusal_given, something_given}
+use Rattle.cap_vet.proofs.GivenPaths.{to_fault_given}
 use Rattle.cap_vet.proofs.nodes.getting.given.Goals as goal
 
 pub returns-in-Some-clause-given : goal.returns-in-Some-clause-given

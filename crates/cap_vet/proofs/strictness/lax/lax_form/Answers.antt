@@ -1,4 +1,4 @@
-use Rattle.cap_vet.proofs.Laxness.{cap_form, null_form}
+use Rattle.cap_walk.proofs.PadForms.{cap_form, null_form}
 use Rattle.cap_vet.proofs.strictness.lax.lax_form.Goals as goal
 use Rattle.cap_spec.proofs.ProofNames.{rules, arith}
 

@@ -1,9 +1,9 @@
 use Rattle.cap_spec.specs.declared.StrictRefusal.TheVariants.{Refused}
 use Rattle.cap_spec.proofs.ProofNames.{Err, ap, false, refl, rules, true, IsMessage}
 use Rattle.cap_spec.proofs.Strict.Faults.{one_strict_fault, strict_not_fault}
-use Rattle.cap_vet.specs.Limits.{depth_of, words_of}
+use Rattle.cap_walk.specs.Limits.{depth_of, words_of}
 use Rattle.cap_vet.proofs.Laxness.{fault_at_end, strict_at_end, within_of}
-use Rattle.cap_vet.proofs.Verdicts.{accepted_at_end, vetted_within}
+use Rattle.cap_walk.proofs.Verdicts.{vetted_within}
 use Rattle.cap_vet.proofs.strictness.strict_vetting.vet_strict.Goals as goal
 use Rattle.cap_spec.proofs.Lemmas.{strict_wider}
 
@@ -21,33 +21,34 @@ returns-in-Err-Refused-clause-refuses g c = λ r h.
 
 pub invariant_of-result : goal.invariant_of-result
 invariant_of-result g c =
-    let w = c.in-Ok.ensures.ok in
-    record { accepted = ∣ vetted_within _ c.args.limits _ (accepted_at_end w.seen w.ahead w.walks) ∣₁ }
+    record { accepted = ∣ vetted_within _ c.args.limits _ c.in-Ok.ensures.ok.0 ∣₁ }
 
 pub invariant_of-result-in-None : goal.invariant_of-result-in-None
 invariant_of-result-in-None g c =
-    let w = c.in-Ok.ensures.ok in
+    let accepted = c.in-Ok.ensures.ok.0 in
+    let (seen, t, known) = c.in-Ok.ensures.ok.1 in
     let none = c.in-None.ensures.none refl in
     record {
       strict = ∣ (strict_wider _ (words_of c.args.limits) (depth_of c.args.limits) 268435456 256
-          (strict_at_end w.seen w.ahead w.walks (rw none.1 at w.known) none.0) c.args.limits.few
+          (strict_at_end seen accepted t (rw none.1 at known) none.0) c.args.limits.few
           c.args.limits.shallow) ∣₁;
     }
 
 pub returns-in-None : goal.returns-in-None
 returns-in-None g c =
-    let w = c.in-Ok.ensures.ok in
+    let accepted = c.in-Ok.ensures.ok.0 in
+    let (seen, t, known) = c.in-Ok.ensures.ok.1 in
     let none = c.in-None.ensures.none refl in
-    let a = accepted_at_end w.seen w.ahead w.walks in
-    let s = strict_at_end w.seen w.ahead w.walks (rw none.1 at w.known) none.0 in
+    let s = strict_at_end seen accepted t (rw none.1 at known) none.0 in
     search (rules, strict_not_fault)
 
 pub returns-in-Some : goal.returns-in-Some
 returns-in-Some g c =
     let m = g.M.Segments.segments c.args.message.now in
     let message : IsMessage m = search rules in
-    let w = c.in-Ok.ensures.ok in
+    let accepted = c.in-Ok.ensures.ok.0 in
+    let (seen, t, known) = c.in-Ok.ensures.ok.1 in
     let fault = fault_at_end (record { strict = true; unamplified = false }) m (words_of c.args.limits)
-    (depth_of c.args.limits) w.seen _ c.in-Some.fault message (within_of m _ _ _ (accepted_at_end w.seen w.ahead w.walks))
-    w.known c.in-Some.ensures.some in
+    (depth_of c.args.limits) seen _ c.in-Some.fault message (within_of m _ _ _ accepted) known
+    c.in-Some.ensures.some in
     search (rules, strict_not_fault, one_strict_fault)

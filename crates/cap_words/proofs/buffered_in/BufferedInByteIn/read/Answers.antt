@@ -1,13 +1,28 @@
 use Rattle.cap_spec.proofs.ProofNames.{rules}
 use Rattle.std.proofs.BufReadLemmas.{zero_unless_positive}
-use Rattle.std.proofs.Common.{ap, arith, drop, length, length-drop, length-take, slice_range, take, ◌+◌, ◌-◌, ◌<◌}
-use Rattle.std.proofs.Common.{◌≡◌}
+use Rattle.std.proofs.Common.{ap, arith, drop, length, length-drop, length-take, slice_range, take, ◌+◌, ◌-◌, ◌<◌, ◌≡◌}
+use Rattle.std.proofs.Common.{List, [], drop-drop, take-add, take-take, ℕ, ◌++◌, ◌≤◌}
 use Rattle.std.proofs.KnownBytes.{Keeps-refl, prepend_known-read}
 use Rattle.std.specs.Io.KnownBytes.{IsAtEnd, Keeps, prepend_known}
-use Rattle.cap_words.proofs.Buffering.{given_off, none_between}
 use Rattle.cap_words.proofs.Known.{known_consumes, known_end, known_past}
 use Rattle.cap_words.proofs.buffered_in.BufferedInByteIn.read.Goals.{else-self, then-self+else-buf-ge-BUFFER+in_default}
 use Rattle.cap_words.proofs.buffered_in.BufferedInByteIn.read.Goals as goal
+
+-- A buffer out of whose front bytes are given.
+-- n of them were given, and the others are still held
+given_off : (xs given : List ℕ) (start end n : ℕ) → n ≤ length (slice_range xs start end) → take n given ≡ take n (slice_range xs start end)
+    → slice_range xs start end ≡ take n given ++ slice_range xs (start + n) end
+given_off xs given start end n within same = search (
+  rules,
+  length-take (end - start) (drop start xs),
+  take-add n (end - (start + n)) (drop start xs),
+  drop-drop n start xs,
+  take-take n (end - start) (drop start xs) (omega (arith, length-take (end - start) (drop start xs))),
+)
+
+-- nothing is held from a place up to itself
+none_between : (xs : List ℕ) (start end : ℕ) → start ≡ end → slice_range xs start end ≡ []
+none_between xs start end e = ap (λ k. take k (drop start xs)) {y = 0} (omega arith)
 
 pub returns-clause-bytes : goal.returns-clause-bytes
 returns-clause-bytes g c =

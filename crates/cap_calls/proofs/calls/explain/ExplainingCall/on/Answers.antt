@@ -15,4 +15,5 @@ pub returns-in-Err : goal.returns-in-Err
 returns-in-Err c =
     let h = c.in-Err.ensures.err in
     let of = c.explained.ensures in
-    (explained c.in-Err.refusal h (of.lines h) (ap uncounted of.refused), of.few)
+    let (cycle, is_cycle, lines) = of.lines h in
+    (explained c.in-Err.refusal h cycle is_cycle lines (ap uncounted of.refused), of.few)

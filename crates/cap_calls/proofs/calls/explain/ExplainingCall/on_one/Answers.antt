@@ -1,7 +1,7 @@
 -- The verdict of the slice.
 use Rattle.std.proofs.Common.{List, ap, arith, refl, subst, ℕ, ◌∙◌, ◌≡◌}
-use Rattle.cap_vet.specs.Demands.{IsDemandFault}
-use Rattle.cap_vet.specs.Limits.{depth_of, words_of}
+use Rattle.cap_walk.specs.Demands.{IsDemandFault}
+use Rattle.cap_walk.specs.Limits.{depth_of, words_of}
 use Rattle.cap_calls.specs.CallFindings.{accepted_found}
 use Rattle.cap_calls.specs.ExplainCalls.{FindsLines, accepted, explained, uncounted}
 use Rattle.cap_calls.specs.declared.answer.Answer.TheVariants.{Good}
@@ -25,4 +25,5 @@ returns-in-Err c =
     let h = subst (λ (m : List (List ℕ)). IsDemandFault c.args.demands m (words_of c.args.limits) (depth_of c.args.limits) refusal)
     c.of.ensures c.in-Err.ensures.err in
     let of = c.explained.ensures in
-    (explained refusal h (of.lines h) (ap uncounted of.refused), of.few)
+    let (cycle, is_cycle, lines) = of.lines h in
+    (explained refusal h cycle is_cycle lines (ap uncounted of.refused), of.few)

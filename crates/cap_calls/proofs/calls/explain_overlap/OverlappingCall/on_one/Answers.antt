@@ -1,6 +1,6 @@
 -- The lines on the slice.
 use Rattle.cap_spec.proofs.ProofNames.{subst}
-use Rattle.cap_vet.specs.Limits.{depth_of, words_of}
+use Rattle.cap_walk.specs.Limits.{depth_of, words_of}
 use Rattle.cap_calls.specs.OverlapCalls.{FindsFewOverlapLines}
 use Rattle.cap_calls.proofs.calls.explain_overlap.OverlappingCall.on_one.Goals as goal
 

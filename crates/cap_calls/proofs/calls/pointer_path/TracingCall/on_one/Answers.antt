@@ -1,6 +1,6 @@
 -- The path in the slice.
 use Rattle.cap_spec.proofs.ProofNames.{subst}
-use Rattle.cap_vet.specs.Limits.{depth_of, words_of}
+use Rattle.cap_walk.specs.Limits.{depth_of, words_of}
 use Rattle.cap_calls.specs.PointerCalls.{FindsFew}
 use Rattle.cap_calls.proofs.calls.pointer_path.TracingCall.on_one.Goals as goal
 

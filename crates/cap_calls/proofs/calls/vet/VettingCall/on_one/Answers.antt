@@ -1,6 +1,6 @@
 -- The verdict of the slice.
 use Rattle.cap_spec.proofs.ProofNames.{subst, ⊤}
-use Rattle.cap_vet.specs.Limits.{depth_of, words_of}
+use Rattle.cap_walk.specs.Limits.{depth_of, words_of}
 use Rattle.cap_calls.specs.CallNames.{Judges, IsGood}
 use Rattle.cap_calls.proofs.calls.vet.VettingCall.on_one.Goals as goal
 

@@ -1,4 +1,4 @@
-use Rattle.cap_spec.proofs.ProofNames.{refl, outline_text}
+use Rattle.cap_spec.proofs.ProofNames.{arith, refl, outline_text}
 use Rattle.cap_frame.specs.Limit.{limit_of}
 use Rattle.cap_frame.specs.Outlines.{root_in, sizes_in}
 use Rattle.cap_text.proofs.SegmentLines.{text_of_outline}
@@ -15,6 +15,8 @@ returns-in-Ok-clause-some g c =
       (text_of_outline c.args.number outline r.0 r.2, refl),
       reads_one g.S.WordSource (limit_of c.args.limit) c.args.source.now c.read_outline.new.source r.0 r.1 c.in-Ok-true.ensures.read.next.works,
       c.in-Ok.ensures,
+      refl,
+      omega arith,
     )
 
 pub returns-in-Err-write_segments-clause-err : goal.returns-in-Err-write_segments-clause-err

@@ -1,6 +1,7 @@
 use Rattle.cap_spec.proofs.ProofNames.{rules, arith, slice_index_or, ◌+◌, ◌≡◌}
-use Rattle.cap_vet.specs.Taken.{start_of}
-use Rattle.cap_vet.proofs.Ranges.{marks_range, range_conflict, start_within}
+use Rattle.cap_frame.specs.SegmentStarts.{start_of}
+use Rattle.cap_vet.proofs.Ranges.{marks_range, range_conflict}
+use Rattle.cap_frame.proofs.SegmentStarts.{start_within}
 use Rattle.cap_vet.proofs.MarkingWalk.{capacity_kept}
 use Rattle.cap_vet.proofs.exclusiveness.marks.Marks.mark_words.Goals as goal
 

@@ -1,6 +1,6 @@
 use Rattle.cap_spec.proofs.ProofNames.{arith, refl, rules, IsMessage, element, word}
 use Rattle.cap_vet.proofs.Charging.{arrives_element, arrives_word, fault_word}
-use Rattle.cap_vet.proofs.Looks.{followed_costs, followed_shallow}
+use Rattle.cap_walk.proofs.Looks.{followed_costs, followed_shallow}
 use Rattle.cap_vet.proofs.AtSomePlace.{arrival_at_some_place, arrival_within, step_exists, step_inside}
 use Rattle.cap_vet.proofs.nodes.charged.Arrival.step.Goals as goal
 

@@ -1,5 +1,5 @@
 -- The element is where its number says.
-use Rattle.cap_vet.proofs.ElementWays.{element_given, element_small, element_within}
+use Rattle.cap_vet.proofs.ElementPaths.{element_given, element_small, element_within}
 use Rattle.cap_vet.proofs.nodes.struct_elements.StructElements.element.Goals as goal
 use Rattle.cap_spec.proofs.ProofNames.{rules, arith, ◌<◌}
 

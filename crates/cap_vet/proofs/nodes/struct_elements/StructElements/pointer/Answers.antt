@@ -1,6 +1,6 @@
 -- The pointer is where the two numbers say.
 use Rattle.std.proofs.Common.{arith, refl, ◌*◌, ◌+◌, ◌<◌}
-use Rattle.cap_vet.proofs.ElementWays.{element_small, element_within, pointer_given}
+use Rattle.cap_vet.proofs.ElementPaths.{element_small, element_within, pointer_given}
 use Rattle.cap_vet.proofs.nodes.struct_elements.StructElements.pointer.Goals as goal
 
 pub returns-clause-given : goal.returns-clause-given

@@ -1,5 +1,0 @@
-use Rattle.std.proofs.Common.{rules}
-use Rattle.cap_calls.proofs.found.Found.framed.Goals as goal
-
-pub returns : goal.returns
-returns c = search rules

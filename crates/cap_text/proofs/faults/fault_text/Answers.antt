@@ -1,4 +1,0 @@
-use Rattle.cap_text.proofs.faults.fault_text.Goals as goal
-
-pub returns-clause-line : goal.returns-clause-line
-returns-clause-line c = rw (c.push_text-2.ensures, c.push_cause.ensures.items, c.push_text.ensures, c.new-page.ensures)

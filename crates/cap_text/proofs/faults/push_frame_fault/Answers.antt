@@ -1,4 +1,0 @@
-use Rattle.cap_text.proofs.faults.push_frame_fault.Goals as goal
-
-pub returns-in-Memory-clause-items : goal.returns-in-Memory-clause-items
-returns-in-Memory-clause-items c = rw c.in-Memory.is c.push_text-in-Memory.ensures

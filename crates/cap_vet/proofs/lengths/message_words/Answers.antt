@@ -1,6 +1,0 @@
-use Rattle.cap_spec.proofs.ProofNames.{rules}
-use Rattle.cap_vet.proofs.Ranges.{all_words}
-use Rattle.cap_vet.proofs.lengths.message_words.Goals as goal
-
-pub returns-clause-exact : goal.returns-clause-exact
-returns-clause-exact g c = search (rules, all_words)

@@ -1,0 +1,16 @@
+pub mod ChargeSteps
+pub mod ChargeUpTo
+pub mod Demands
+pub mod Limits
+pub mod Looking
+pub mod NullCosts
+pub mod Owing
+pub mod Passing
+pub mod PointerRuns
+pub mod Reports
+pub mod Trails
+pub mod Turning
+pub mod Turns
+pub mod Walking
+pub mod WalkSteps
+pub mod WalkNames

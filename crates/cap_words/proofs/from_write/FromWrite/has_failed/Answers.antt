@@ -1,5 +1,0 @@
-use Rattle.std.proofs.Common.{rules}
-use Rattle.cap_words.proofs.from_write.FromWrite.has_failed.Goals as goal
-
-pub returns : goal.returns
-returns g c = search rules
