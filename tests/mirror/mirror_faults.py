@@ -85,7 +85,7 @@ CHANGES = (
     Change("Arriving", "own_at m (Struct d p) t b = own_struct (words_from m t b d) p",
            "own_at m (Struct d p) t b = own_struct (words_from m t b p) p"),
     Change("Texts", "then 48 + n else 87 + n", "then 48 + n else 55 + n"),
-    Change("Reasons", "rank Place = 4\nrank Bits = 5", "rank Place = 5\nrank Bits = 4"),
+    Change("Reasons", "difference_rank Place = 4\ndifference_rank Bits = 5", "difference_rank Place = 5\ndifference_rank Bits = 4"),
     Change("Reasons", "last_bits c n = (element_bits c * n) % 64", "last_bits c n = (element_bits c * n) % 8"),
     Change("Reasons", "pub set : last / 2 ^ last_bits c n ≢ 0", "pub set : last ≢ 0"),
     Change("Reasons", "HasWord m t (b + k * (ds + ps) + (ds - 1)) 0", "HasWord m t (b + k * (ds + ps) + ds) 0"),
