@@ -19,7 +19,7 @@ from coq import Library, Writer, declared, statements
 HERE = Path(__file__).resolve().parent
 CRATES = HERE.parent.parent / "crates"
 # Files of specs/ that declare nothing, two that are about the code of their crate, and two that only pass names on.
-LEFT, OF_CODE = ("Lib",), ("cap_difference/specs/Reading.antt", "cap_difference/specs/Searching.antt")
+LEFT, OF_CODE = ("Lib",), ("cap_difference/specs/ReadWords.antt", "cap_difference/specs/Searching.antt")
 PASSING = ("SpecNames", "LawNames")
 # The types of the code that definitions speak of, by the file of Coq that has them.
 DECLARED = {"Declared": ["cap_spec/src/lib.rt"], "DeclaredDifference": ["cap_difference/src/reason.rt", "cap_difference/src/difference.rt"]}

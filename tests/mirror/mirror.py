@@ -85,7 +85,7 @@ def generated(folder):
     for path in sorted([*specs.glob("*.antt"), *(folder / "cap_difference/specs").glob("*.antt")]):
         text = path.read_text()
         number = re.search(r"^(?!--|use |pub use )[^\"\n]*(?:=|≡|≤|<|\+|\^) (\d+)", text, re.M)
-        if number and path.stem not in ("Lib", "SpecNames", "Reading", "Searching"):
+        if number and path.stem not in ("Lib", "SpecNames", "ReadWords", "Searching"):
             path.write_text(f"{text[:number.start(1)]}{int(number[1]) + 1}{text[number.end(1):]}")
             said, status = run([*command, "--check"])
             expect(f"generate.py --check sees a change in {path.name}", status == 1 and said.startswith(f"{path.stem}.v isn't"), said)

@@ -82,23 +82,35 @@ SENTENCES = {
     "CapabilityPad": "the only word of the landing pad is a capability, which common readers reject",
     "Overlap": "the pointer uses a word twice, the root word, or one that an earlier pointer uses; --exclusive forbids all three",
 }
-# Cycles, each by the words of its message: the number of levels once round, by hand. The pointer is refused at level 65. None: the path
-# leaves the cycle before that pointer.
+# Cycles, each by the options and the words of its message: the pointer word that the path reaches twice, and the two levels, by hand.
+# None: the path reaches no word twice.
 CYCLES = (
     # of one struct, two and three
-    ("fcffffff00000100", 1),
-    ("0000000000000100 0000000000000100 f8ffffff00000100", 2),
-    ("0000000000000100 0000000000000100 0000000000000100 f4ffffff00000100", 3),
+    ("", "fcffffff00000100", ("0:0", 64, 65)),
+    ("", "0000000000000100 0000000000000100 f8ffffff00000100", ("0:2", 63, 65)),
+    ("", "0000000000000100 0000000000000100 0000000000000100 f4ffffff00000100", ("0:1", 62, 65)),
     # through landing pads of one word and of two
-    ("0a00000000000000 f8ffffff00000100", 1),
-    ("0200000001000000 | 0000000000000100 0600000002000000 | 0200000000000000 0000000000000100", 2),
-    ("0000000000000100 0600000001000000 f8ffffff00000100 | 0200000002000000 0000000000000100 | 0000000000000100 1200000000000000", 3),
+    ("", "0a00000000000000 f8ffffff00000100", ("0:0", 64, 65)),
+    ("", "0200000001000000 | 0000000000000100 0600000002000000 | 0200000000000000 0000000000000100", ("0:0", 63, 65)),
+    ("", "0000000000000100 0600000001000000 f8ffffff00000100 | 0200000002000000 0000000000000100 | 0000000000000100 1200000000000000",
+     ("0:1", 62, 65)),
     # through a list of pointers, and a list of structs, which has one level more
-    ("0000000000000100 0200000001000000 f8ffffff00000100 | 0100000016000000 0000000000000000 0000000000000100 1200000000000000 | ", 3),
-    ("0000000000000100 0200000001000000 f8ffffff00000100 | 0100000017000000 0800000000000100 0000000000000000 0000000000000100 "
-     "1200000000000000 | ", 4),
-    # a pointer beside the one of the cycle, which is refused first
-    ("0000000000000200 0400000001000000 f8ffffff00000200 2a00000000000000", None),
+    ("", "0000000000000100 0200000001000000 f8ffffff00000100 | 0100000016000000 0000000000000000 0000000000000100 1200000000000000 | ",
+     ("0:1", 62, 65)),
+    ("", "0000000000000100 0200000001000000 f8ffffff00000100 | 0100000017000000 0800000000000100 0000000000000000 0000000000000100 "
+     "1200000000000000 | ", ("1:4", 61, 65)),
+    # where the path leaves the cycle: a pointer beside the one of the cycle is refused first
+    ("", "0000000000000200 0400000001000000 f8ffffff00000200 2a00000000000000", ("0:2", 63, 64)),
+    # the path to the word limit
+    ("--words 10", "fcffffff00000100", ("0:0", 10, 11)),
+    ("--words 20", "0000000000000200 0400000001000000 f8ffffff00000200 2a00000000000000", ("0:2", 6, 7)),
+    ("--words 5", "0000000000000200 0400000001000000 f8ffffff00000200 2a00000000000000", None),
+    # once round, and once less
+    ("--depth 1", "fcffffff00000100", ("0:0", 1, 2)),
+    ("--depth 1", "0000000000000100 f8ffffff00000100", None),
+    # other paths without one
+    ("--depth 1", "0000000000000100 0000000000000000", None),
+    ("--words 0", "0000000000000100 0000000000000000", None),
 )
 # Those of the first difference from the canonical copy.
 DIFFERENCES = {
@@ -293,16 +305,20 @@ def earlier_lines(message, number):
 
 
 def cycle_lines(message, number):
-    """The line that the path to the pointer of this number returns to its word, if it does. It has the last level there before."""
+    """The line of the last pointer word that the path to the pointer of this number reaches twice, if there is one."""
     ahead = [((), (0, 0), 1)]
     for _ in range(number - 1):
         before, place, level = ahead.pop()
         places, levels = model.children(model.followed(message, *place))
         ahead += [((*before, (place, level)), below, level + levels) for below in reversed(places)]
-    before, place, _ = ahead.pop()
-    reached = [level for other, level in before if other == place]
-    if reached:
-        yield f"cycle: the path returns to this pointer word, which it reached at level {reached[-1]}"
+    before, place, level = ahead.pop()
+    known, last = {}, None
+    for place, level in (*before, (place, level)):
+        if place in known:
+            last = f"cycle: the path reaches pointer word {place[0]}:{place[1]} at level {known[place]}, and returns to it at level {level}"
+        known[place] = level
+    if last:
+        yield last
 
 
 def explanation(message, reason, segment, at, pointers, words, depth, start, has_table):
@@ -313,9 +329,10 @@ def explanation(message, reason, segment, at, pointers, words, depth, start, has
         yield elements_line(message, segment, at)
     if reason == "DepthLimit":
         yield f"level {depth + 1}, limit {depth}"
-        yield from cycle_lines(message, pointers)
     if reason == "WordLimit":
         yield f"charge up to here {charge_to(message, pointers)} words, limit {words} words"
+    if reason in ("DepthLimit", "WordLimit"):
+        yield from cycle_lines(message, pointers)
     yield f"reason {sentence(message, reason, segment, at)}"
     if reason == "Overlap":
         yield from earlier_lines(message, pointers)
@@ -521,15 +538,16 @@ def compare_lines(options, stream, first, seen, filtered):
 
 def compare_cycles():
     """The line of a cycle, and its member with --json, by what was worked out by hand."""
-    for words, round_trip in CYCLES:
+    for options, words, expected in CYCLES:
         given = framed(words)
-        lines = outputs([PROGRAM, "explain"], given)[0].decode().splitlines()
-        level = re.search(r" level (\d+)$", next(filter(lambda line: line.startswith("  cycle: "), lines), ""))
-        member = json.loads(outputs([PROGRAM, "explain", "--json"], given)[0]).get("cycle_level")
-        expected = round_trip and 65 - round_trip
-        compare(f"the level of a cycle, {words}", ("  level 65, limit 64" in lines, expected, expected),
-                (True, int(level[1]) if level else None, member))
-        compare(f"the lines of a cycle, {words}", lines_of(0, segments_of(given), [], (0, False))[0], lines)
+        lines = outputs([PROGRAM, "explain", *options.split()], given)[0].decode().splitlines()
+        found = re.search(r"^  cycle: the path reaches pointer word (\d+:\d+) at level (\d+), and returns to it at level (\d+)$",
+                          "\n".join(lines), re.M)
+        member = json.loads(outputs([PROGRAM, "explain", "--json", *options.split()], given)[0]).get("cycle")
+        compare(f"the line of a cycle, {options} {words}", expected, found and (found[1], int(found[2]), int(found[3])))
+        compare(f"the member of a cycle, {options} {words}", expected,
+                member and (f"{member['segment']}:{member['word']}", member["from_level"], member["to_level"]))
+        compare(f"the lines of a cycle, {options} {words}", lines_of(0, segments_of(given), options.split(), (0, False))[0], lines)
 
 
 def compare_overlaps(many):

@@ -37,7 +37,7 @@ ACCEPTED = re.compile(r"accepted charge (\d+) depth (\d+) pointers (\d+) caps (\
 REFUSED = re.compile(r"refused (\w+) at (\d+):(\d+) pointers (\d+)")
 NO_FORM = re.compile(r"no canonical form, capability at (\d+):(\d+)")
 FILTERED = re.compile(r"  filter, the guard and the libraries refuse it: (\w+) at (\d+):(\d+) pointers (\d+)")
-CYCLE = re.compile(r"^  cycle: the path returns to this pointer word, which it reached at level (\d+)$", re.M)
+CYCLE = re.compile(r"^  cycle: the path reaches pointer word (\d+):(\d+) at level (\d+), and returns to it at level (\d+)$", re.M)
 DIFFERS = re.compile(r"not canonical: (\w+) at (\d+):(\d+) pointers (\d+)")
 
 
@@ -52,7 +52,7 @@ def explained(lines):
     given = dict(line.split(" ", 3)[2:] for line in lines if line.startswith(("  path ", "  reason ")))
     cycle = CYCLE.search("\n".join(lines))
     return {**({"path": given["path"]} if "path" in given else {}), **({"sentence": given["reason"]} if "reason" in given else {}),
-            **({"cycle_level": int(cycle[1])} if cycle else {})}
+            **({"cycle": dict(zip(("segment", "word", "from_level", "to_level"), map(int, cycle.groups())))} if cycle else {})}
 
 
 def canonical(text, lines):
@@ -134,9 +134,9 @@ def kinds(lines):
                         ("not canonical", lambda it: it.get("canonical") is False), ("a hash", lambda it: it.get("sha256")),
                         ("no form", lambda it: it.get("sha256", "") is None), ("a sentence", lambda it: "sentence" in it),
                         ("a path", lambda it: "path" in it),
-                        ("a cycle", lambda it: "cycle_level" in it),
+                        ("a cycle", lambda it: "cycle" in it),
                         ("a depth limit without a cycle", lambda it: it.get("reason") == "DepthLimit" and "path" in it
-                         and "cycle_level" not in it),
+                         and "cycle" not in it),
                         ("a sentence without a path", lambda it: "sentence" in it and "path" not in it),
                         ("an overlap with its path", lambda it: it.get("reason") == "Overlap" and "path" in it),
                         ("accepted and filtered", lambda it: "path" in it.get("filter", {})),

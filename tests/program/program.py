@@ -162,7 +162,7 @@ CYCLE_EXPLAINED = f"""\
   target 0:0 to 0:0, words 1
   leads into segment 0, words 1
   level 65, limit 64
-  cycle: the path returns to this pointer word, which it reached at level 64
+  cycle: the path reaches pointer word 0:0 at level 64, and returns to it at level 65
   reason the target is at a deeper level than the limit allows
 """
 

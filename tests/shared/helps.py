@@ -36,8 +36,8 @@ texts, the package for Python has 'python -m capvet'.
 
 With --json 'vet', 'explain', 'check' and 'hash' print an object for each message. It has 'message'
 and 'verdict', and for a refusal 'reason', with 'segment', 'word' and 'pointer' if it names a
-pointer. 'explain' adds 'sentence', 'path' if it names a pointer, and 'cycle_level' for a cycle. An
-input that breaks off has its line on standard error.
+pointer. 'explain' adds 'sentence', 'path' if it names a pointer, and 'cycle' for a cycle. An input
+that breaks off has its line on standard error.
 
 Exit status:
   0  every message was accepted, and is canonical for 'check'; or every word was copied;
@@ -59,7 +59,7 @@ Prints the segments of each message, their sizes in words, and the root pointer
 Usage: capvet segments [OPTIONS] [FILE]
 
 Arguments:
-  [FILE]  File to read instead of standard input
+  [FILE]  File to read instead of standard input; several files go after --files
 
 Options:
       --packed           The input is packed
@@ -81,7 +81,7 @@ Checks that each message is safe to traverse
 Usage: capvet vet [OPTIONS] [FILE]
 
 Arguments:
-  [FILE]  File to read instead of standard input
+  [FILE]  File to read instead of standard input; several files go after --files
 
 Options:
       --packed           The input is packed
@@ -143,9 +143,10 @@ path to the pointer, as 'get' takes it, and the byte of the pointer in the messa
 A path of more than 24 steps is shortened in its middle, and whole with --json. Then comes the
 pointer word with its form and its fields, and so does each word of its landing pad. The next lines
 have the words of its target, its tag if it is a list of structs, and the segment that the pointer
-leads into, with its length. Then come what is exceeded, if something is, for DepthLimit whether the
-path returns to the pointer word, which is a cycle, and the reason as a sentence. For Overlap a last
-line, 'first used by', names the earlier pointer that uses the same word, if there is one.
+leads into, with its length. Then come what is exceeded, if something is, and the reason as a
+sentence. If a limit is passed, a line 'cycle' names the last pointer word that the path returns to,
+if there is one. For Overlap a last line, 'first used by', names the earlier pointer that uses the
+same word, if there is one.
 
 If the input breaks off inside a message, or a message is too large, standard error has the line of
 this fault. Lines after it say where the message begins, what its table says, and the reason. If the
@@ -290,7 +291,7 @@ Checks that each message is canonical
 Usage: capvet check [OPTIONS] [FILE]
 
 Arguments:
-  [FILE]  File to read instead of standard input
+  [FILE]  File to read instead of standard input; several files go after --files
 
 Options:
       --packed           The input is packed

@@ -9,9 +9,10 @@ use Rattle.cap_explain.specs.Cycles.{IsFaultCycle}
 use Rattle.cap_explain.proofs.Charges.{one_fault_charge}
 use Rattle.cap_explain.proofs.Cycles.{one_fault_cycle}
 use Rattle.cap_trace.specs.NamedPaths.{fault_path}
+use Rattle.cap_trace.specs.declared.returning.Cycle.{Cycle}
 use Rattle.cap_explain.specs.Explaining.{explanation}
-use Rattle.cap_explain.specs.FaultLines.{fault_lines, fault_numbers}
-use Rattle.cap_explain.proofs.FaultLines.{one_path_of}
+use Rattle.cap_explain.specs.ExplainedFaults.{fault_lines, fault_numbers}
+use Rattle.cap_explain.proofs.ExplainedFaults.{one_path_of}
 use Rattle.cap_trace.proofs.Named.{one_path}
 use Rattle.cap_walk.proofs.OneReport.{one_report}
 use Rattle.cap_calls.specs.AnswerNumbers.{lax_answer}
@@ -32,19 +33,19 @@ one_put text old n k xs ys h j = search rules
 module _ (has_table : Bool) (demands : Demands) (m : List (List ℕ)) (words depth : ℕ) where
   -- A fault has one explanation.
   one_explanation : (r q : StrictRefusal) → r ≡ q → (h : IsDemandFault demands m words depth r)
-      (k : IsDemandFault demands m words depth q) (a b : Option ℕ) → IsFaultCycle demands m words depth r h a
+      (k : IsDemandFault demands m words depth q) (a b : Option Cycle) → IsFaultCycle demands m words depth r h a
       → IsFaultCycle demands m words depth q k b
       → fault_lines has_table demands m words depth r h a None ≡ fault_lines has_table demands m words depth q k b None
   one_explanation r q e =
       subst (λ (u : StrictRefusal). (h : IsDemandFault demands m words depth r) (k : IsDemandFault demands m words depth u)
-      (a b : Option ℕ) → IsFaultCycle demands m words depth r h a → IsFaultCycle demands m words depth u k b
+      (a b : Option Cycle) → IsFaultCycle demands m words depth r h a → IsFaultCycle demands m words depth u k b
       → fault_lines has_table demands m words depth r h a None ≡ fault_lines has_table demands m words depth u k b None) e
       (λ h k a b x y. ap (λ (path : Option (List Step)). explanation path m r (fault_numbers has_table demands m words depth r h a None))
       (one_path demands m words depth r h k)
       ∙ ap (λ (charge : Option ℕ). explanation (fault_path demands m words depth r k) m r
       (record { words = words_under demands m words; depth = depth; charge = charge; cycle = a; has_table = has_table; start = None }))
       (one_fault_charge demands m words depth r (one_path_of demands m words depth) h k)
-      ∙ ap (λ (cycle : Option ℕ). fault_lines has_table demands m words depth r k cycle None)
+      ∙ ap (λ (cycle : Option Cycle). fault_lines has_table demands m words depth r k cycle None)
       (one_fault_cycle demands m words depth r (one_path_of demands m words depth) h k a b x y))
 
   one_lines : (old x y : List ℕ) (n k : ℕ) (f g : Found) → FindsLines has_table old n x demands m words depth f

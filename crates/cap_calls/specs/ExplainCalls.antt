@@ -4,8 +4,9 @@ use Rattle.cap_spec.specs.declared.StrictRefusal.{StrictRefusal}
 use Rattle.cap_vet.specs.VetNames.{IsAccepted, IsDemandFault, Meets, words_under}
 use Rattle.cap_walk.specs.declared.demands.Demands.{Demands}
 use Rattle.cap_walk.specs.declared.report.Report.{Report}
+use Rattle.cap_trace.specs.declared.returning.Cycle.{Cycle}
 use Rattle.cap_explain.specs.Cycles.{IsFaultCycle}
-use Rattle.cap_explain.specs.FaultLines.{fault_lines}
+use Rattle.cap_explain.specs.ExplainedFaults.{fault_lines}
 use Rattle.cap_calls.specs.CallBounds.{explanation_bound}
 use Rattle.cap_calls.specs.CallFindings.{Returns, accepted_found, refused_found}
 use Rattle.cap_calls.specs.CallFlags.{allows_trailing, demands_of, has_no_table}
@@ -42,11 +43,11 @@ frame_line Trailing = codes "  reason " ++ frame_sentence Trailing ++ 10 ∷ []
 frame_line _ = []
 
 -- Of a message, for a buffer that held `old`, and then holds `new`: n is the length of the lines that explain why the
--- message doesn't meet the demands. One says that the path returns to the pointer word, exactly if the depth limit is
--- passed there and it does. There are none if the message meets the demands.
+-- message doesn't meet the demands. One names the last cycle of the path, exactly if a limit is passed there and the path
+-- has one. There are none if the message meets the demands.
 pub data FindsLines (has_table : Bool) (old : List ℕ) (n : ℕ) (new : List ℕ) (demands : Demands) (m : List (List ℕ))
     (words depth : ℕ) (f : Found) : Type 0 where
-  explained : (fault : StrictRefusal) (h : IsDemandFault demands m words depth fault) (cycle : Option ℕ)
+  explained : (fault : StrictRefusal) (h : IsDemandFault demands m words depth fault) (cycle : Option Cycle)
       → IsFaultCycle demands m words depth fault h cycle
       → PutsText (fault_lines has_table demands m words depth fault h cycle None) old n new
       → f ≡ refused_found fault → FindsLines has_table old n new demands m words depth f

@@ -2,7 +2,7 @@
 use Rattle.std.specs.Prelude.{Bool, List, None, Option, Some, not, ℕ, ◌++◌, ◌≡◌, ◌≤◌}
 use Rattle.cap_spec.specs.declared.Step.{Step}
 use Rattle.cap_explain.specs.Explaining.{overlap_lines}
-use Rattle.cap_explain.specs.FaultLines.{earlier_lines}
+use Rattle.cap_explain.specs.ExplainedFaults.{earlier_lines}
 use Rattle.cap_trace.specs.EarlierPointers.{IsEarlierOf, earlier_path}
 use Rattle.cap_trace.specs.declared.earlier.EarlierPointer.{EarlierPointer}
 use Rattle.cap_calls.specs.CallBounds.{overlap_bound}

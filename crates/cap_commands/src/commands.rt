@@ -53,6 +53,11 @@ const ONE_DIGEST_HELP: &str =
 
 const JSON_HELP: &str = "Print a JSON object for each message, one a line";
 
+const FILE_HELP: &str = "File to read instead of standard input";
+
+const SINGLE_FILE_HELP: &str =
+    "File to read instead of standard input; several files go after --files";
+
 const FILES_HELP: &str =
     "File to read instead of standard input; of several, each line has its name";
 
@@ -84,7 +89,11 @@ enum Part {
     Json,
     Path,
     NamedFiles,
+    /// The one file of a command.
     File,
+    /// That of a command with `--files`.
+    SingleFile,
+    /// One file, or several.
     Files,
 }
 
@@ -114,7 +123,7 @@ static FORMS: [Form; 11] = [
         name: "segments",
         about: "Prints the segments of each message, their sizes in words, and the root pointer",
         notes: SEGMENTS_NOTES,
-        parts: &[Part::Packed, Part::Size, Part::NamedFiles, Part::File],
+        parts: &[Part::Packed, Part::Size, Part::NamedFiles, Part::SingleFile],
     },
     Form {
         name: "vet",
@@ -131,7 +140,7 @@ static FORMS: [Form; 11] = [
             Part::One,
             Part::Json,
             Part::NamedFiles,
-            Part::File,
+            Part::SingleFile,
         ],
     },
     Form {
@@ -209,7 +218,7 @@ static FORMS: [Form; 11] = [
             Part::One,
             Part::Json,
             Part::NamedFiles,
-            Part::File,
+            Part::SingleFile,
         ],
     },
     Form {
@@ -277,6 +286,11 @@ fn depth_option<'a>(alloc: Global) -> Arg<'a> {
         .default_value(DEFAULT_DEPTH_TEXT)
 }
 
+// A file that is named without an option.
+fn file<'a>(alloc: Global, help: &'a str) -> Arg<'a> {
+    Arg::new(alloc, "file").value_name("FILE").help(help)
+}
+
 // One part of a command.
 fn argument<'a>(alloc: Global, part: Part) -> Result<Arg<'a>, AllocError> {
     Ok(match part {
@@ -312,13 +326,9 @@ fn argument<'a>(alloc: Global, part: Part) -> Result<Arg<'a>, AllocError> {
             .help(NAMED_FILES_HELP)
             .action(ArgAction::Append)
             .conflicts_with("file")?,
-        Part::File => Arg::new(alloc, "file")
-            .value_name("FILE")
-            .help("File to read instead of standard input"),
-        Part::Files => Arg::new(alloc, "file")
-            .value_name("FILE")
-            .help(FILES_HELP)
-            .action(ArgAction::Append),
+        Part::File => file(alloc, FILE_HELP),
+        Part::SingleFile => file(alloc, SINGLE_FILE_HELP),
+        Part::Files => file(alloc, FILES_HELP).action(ArgAction::Append),
     })
 }
 

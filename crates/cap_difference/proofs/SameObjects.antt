@@ -9,7 +9,7 @@ use Rattle.cap_ptr.specs.Shapes.{FindsObject}
 use Rattle.cap_ptr.specs.declared.shapes.Shape.{Shape}
 use Rattle.cap_canon.specs.InOrder.{HasOwn, IsAsInCopy, IsNextInOrder, MayStartAt}
 use Rattle.cap_canon.proofs.InOrder.{list_by_fields, pointers_own, struct_by_fields, struct_own, structs_inside, structs_own, values_own}
-use Rattle.cap_difference.specs.Reading.{AreRead}
+use Rattle.cap_difference.specs.ReadWords.{AreRead}
 use Rattle.cap_difference.specs.Reasons.{EndInNulls, EndInZeros, ObjectDiffers, PointersDiffers, ScalarsDiffers, StructDiffers, StructsDiffers}
 use Rattle.cap_difference.specs.Reasons.{bits_after, empty_list, empty_struct, pointers_place, struct_null, struct_place, struct_zero}
 use Rattle.cap_difference.specs.Reasons.{structs_null, structs_place, structs_zero, surplus, values_place}

@@ -1,4 +1,4 @@
 pub mod Reasons
 pub mod Differences
-pub mod Reading
+pub mod ReadWords
 pub mod Searching

@@ -1,6 +1,6 @@
 //! Reading the words of lists that a search needn't look at.
 
-ghost use Rattle.cap_difference.specs.Reading.{AreRead, HasWords};
+ghost use Rattle.cap_difference.specs.ReadWords.{AreRead, HasWords};
 ghost use Rattle.cap_spec.specs.Messages.{segment_of};
 ghost use Rattle.std.specs.Prelude.{◌+◌, ◌<◌, ◌≢◌, ◌≤◌, length};
 

@@ -5,4 +5,4 @@ pub mod Places
 pub mod Reasons
 pub mod RowSteps
 pub mod Targets
-pub mod FaultLines
+pub mod ExplainedFaults

@@ -14,6 +14,7 @@ use Rattle.cap_spec.specs.declared.StrictRefusal.TheVariants.{ManySegments as ma
 use Rattle.cap_spec.specs.declared.StrictRefusal.TheVariants.{Refused as refused}
 use Rattle.cap_ptr.specs.Shapes.{is_structs}
 use Rattle.cap_difference.specs.declared.difference.Difference.{Difference}
+use Rattle.cap_trace.specs.declared.returning.Cycle.{Cycle}
 use Rattle.cap_explain.specs.CopyWords.{copy_lines}
 use Rattle.cap_explain.specs.FormTexts.{signed_difference, form_text, segment_word_text, tag_text}
 use Rattle.cap_explain.specs.Leading.{first_byte_of, landing_of, segment_after, list_tag, target_of, word_of}
@@ -148,15 +149,17 @@ excess_line m (Refused DepthLimit) target k = level_line k.depth
 excess_line m (Refused WordLimit) target k = charge_line k.charge k.words
 excess_line m _ target k = []
 
--- the path was at this pointer word before, at this level: the pointers since then are a cycle
-abbrev pub cycle_line : ℕ → List ℕ
-cycle_line level =
-    (codes "  cycle: the path returns to this pointer word, which it reached at level " ++ decimal level) ++ 10 ∷ []
+-- the path reaches this pointer word at both levels: the pointers from the one to the other are a cycle
+abbrev pub cycle_line : Cycle → List ℕ
+cycle_line c =
+    codes "  cycle: the path reaches pointer word " ++ (segment_word_text c.segment c.word
+    ++ ((codes " at level " ++ decimal c.from_level)
+    ++ ((codes ", and returns to it at level " ++ decimal c.to_level) ++ 10 ∷ [])))
 
--- the same, if there is such a level
-abbrev pub cycle_lines : Option ℕ → List ℕ
+-- the same, if there is such a word
+abbrev pub cycle_lines : Option Cycle → List ℕ
 cycle_lines None = []
-cycle_lines (Some level) = cycle_line level
+cycle_lines (Some c) = cycle_line c
 
 -- the reason as a sentence
 abbrev pub reason_line : Fault → Landing → Option Target → List ℕ

@@ -2,7 +2,7 @@ pub mod Charges
 pub mod CopyWords
 pub mod Cycles
 pub mod Explaining
-pub mod FaultLines
+pub mod ExplainedFaults
 pub mod FormTexts
 pub mod Leading
 pub mod Meanings

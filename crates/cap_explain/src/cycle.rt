@@ -1,41 +1,56 @@
-//! Whether the path to a pointer that is refused for the depth limit was at its word before.
+//! The cycle on the path to a pointer that is refused for a limit.
 
-ghost use Rattle.cap_explain.specs.Cycles.{IsFaultCycle, IsRefusedCycle};
+ghost use Rattle.cap_explain.specs.Cycles.{IsFaultCycle, IsRefusedCycle, is_limit};
 ghost use Rattle.cap_spec.specs.Faults.{IsRefused};
 ghost use Rattle.cap_walk.specs.Demands.{IsDemandFault};
 ghost use Rattle.cap_walk.specs.Limits.{depth_of};
 ghost use Rattle.cap_walk.specs.declared.demands.Demands.{Demands};
-ghost use Rattle.std.specs.Prelude.{ℕ};
+ghost use Rattle.std.specs.Prelude.{◌≡◌, ℕ};
 
 use cap_frame::Segments;
 use cap_spec::{Reason, Refusal, StrictRefusal};
-use cap_trace::return_level;
+use cap_trace::{Cycle, last_cycle};
 use cap_walk::Limits;
 
-/// The level at which the path to the refused pointer was at its own word before, as [`return_level`]
-/// gives it. The pointers from there on are a cycle. `None` if the path is there only once, or if the
-/// reason isn't the depth limit. The word limit has no effect. It looks at pointer words only for the
-/// depth limit. Allocates nothing.
-pub fn cycle_level<M: Segments>(message: &M, refusal: &StrictRefusal, limits: Limits) -> Option<u32>
+/// The last cycle on the path to the refused pointer, as [`last_cycle`] gives it. `None` if the path
+/// reaches each pointer word once, or if the reason is no limit. The word limit of `limits` has no
+/// effect. It looks at pointer words only for a limit. Allocates nothing.
+pub fn fault_cycle<M: Segments>(
+    message: &M,
+    refusal: &StrictRefusal,
+    limits: Limits,
+) -> Option<Cycle>
     ensures { let m = M.segments message.now in (demands : Demands) (words : ℕ) →
         (h : IsDemandFault demands m words (depth_of limits) refusal.now) →
         IsFaultCycle demands m words (depth_of limits) refusal.now h result }
 {
     match refusal {
-        StrictRefusal::Refused(refusal) => cycle_of(message, refusal, limits),
+        StrictRefusal::Refused(refusal) => refused_cycle(message, refusal, limits),
         StrictRefusal::ManySegments => None,
         StrictRefusal::Pointer { .. } => None,
     }
 }
 
 // The same of a refusal by `vet`.
-fn cycle_of<M: Segments>(message: &M, refusal: &Refusal, limits: Limits) -> Option<u32>
+fn refused_cycle<M: Segments>(message: &M, refusal: &Refusal, limits: Limits) -> Option<Cycle>
     ensures { let m = M.segments message.now in (words : ℕ) →
         (h : IsRefused m words (depth_of limits) refusal.now) →
         IsRefusedCycle m words (depth_of limits) refusal.now h result }
 {
-    match refusal.reason {
-        Reason::DepthLimit => return_level(message, limits, refusal.pointers),
-        _ => None,
+    if is_limit(refusal.reason) {
+        last_cycle(message, limits, refusal.pointers)
+    } else {
+        None
+    }
+}
+
+// Whether a limit is the reason.
+fn is_limit(reason: Reason) -> bool
+    ensures { result ≡ is_limit reason }
+{
+    match reason {
+        Reason::DepthLimit => true,
+        Reason::WordLimit => true,
+        _ => false,
     }
 }

@@ -66,10 +66,10 @@ fn push_lines<M: Segments>(
 )
     requires exists { pointer.segment < length (M.segments message.now) }
     requires near { IfSome target.now (λ t. t.start < 2 ^ 34) }
-    requires fits { length text.old + POINTER + 3 * PLAIN ≤ CAPACITY }
+    requires fits { length text.old + POINTER + 2 * PLAIN + LINE ≤ CAPACITY }
     ensures items { let p = pointer in text.new ≡ text.old ++ lines_over
         (M.segments message.now) fault p.segment p.word numbers p.value p.landing target.now }
-    ensures few { length text.new ≤ length text.old + POINTER + 3 * PLAIN }
+    ensures few { length text.new ≤ length text.old + POINTER + 2 * PLAIN + LINE }
 {
     if names_pointer(fault) {
         push_pointer_lines(text, message, numbers, pointer, target);
@@ -80,7 +80,7 @@ fn push_lines<M: Segments>(
 }
 
 /// The space for all lines on a fault but that of the path.
-const LINES: usize = POINTER + 3 * PLAIN;
+const LINES: usize = POINTER + 2 * PLAIN + LINE;
 
 /// Appends the lines of a fault that names a word.
 fn push_fault<M: Segments>(
@@ -114,7 +114,7 @@ fn push_fault<M: Segments>(
 
 /// Writes the lines that explain why a message is refused (docs/output.md, explain). They give the
 /// path to the pointer, where it is, and the pointer word with its fields. Then come where it leads,
-/// what is exceeded, whether the path returns to the pointer word, and the reason as a sentence. A
+/// what is exceeded, the last cycle of the path, and the reason as a sentence. A
 /// path of more than 24 steps is shortened. What the text held before is removed. Allocates nothing.
 ///
 /// A refusal that names no word of the message has only the line of the reason, and that of a path

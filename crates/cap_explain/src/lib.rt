@@ -20,7 +20,7 @@ mod sentences;
 mod target;
 mod words;
 
-pub use cycle::cycle_level;
+pub use cycle::fault_cycle;
 pub use earlier::explain_earlier;
 pub use explaining::{explain, explain_difference, explain_overlap, explain_overlap_alone};
 pub use explanation::Explanation;

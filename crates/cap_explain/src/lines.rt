@@ -14,6 +14,7 @@ use cap_buffer::DIGITS;
 use cap_frame::Segments;
 use cap_ptr::{extent, far_segment, is_structs, list_size, pad, words_of_elements};
 use cap_spec::Reason;
+use cap_trace::Cycle;
 
 /// The space for one line without the form of a word.
 pub(crate) const PLAIN: usize = 140;
@@ -332,27 +333,27 @@ pub(crate) fn push_excess_line<M: Segments>(
     }
 }
 
-/// Appends that the path returns to the pointer word, which it reached at this level.
-fn push_cycle_line(text: &mut Explanation, level: u32)
-    requires { length text.old + PLAIN ≤ CAPACITY }
-    ensures items { text.new ≡ text.old ++ cycle_line level }
-    ensures few { length text.new ≤ length text.old + PLAIN }
+/// Appends where the path reaches a pointer word, and where it returns to it.
+fn push_cycle_line(text: &mut Explanation, cycle: Cycle)
+    requires { length text.old + LINE ≤ CAPACITY }
+    ensures items { text.new ≡ text.old ++ cycle_line cycle }
+    ensures few { length text.new ≤ length text.old + LINE }
 {
-    text.push_named(
-        b"  cycle: the path returns to this pointer word, which it reached at level ",
-        u64::from(level),
-    );
+    text.push_text(b"  cycle: the path reaches pointer word ");
+    text.push_place(cycle.segment, u64::from(cycle.word));
+    text.push_named(b" at level ", u64::from(cycle.from_level));
+    text.push_named(b", and returns to it at level ", u64::from(cycle.to_level));
     text.push_text(b"\n");
 }
 
-/// Appends the same, if it does.
-pub(crate) fn push_cycle_lines(text: &mut Explanation, level: Option<u32>)
-    requires { length text.old + PLAIN ≤ CAPACITY }
-    ensures items { text.new ≡ text.old ++ cycle_lines level }
-    ensures few { length text.new ≤ length text.old + PLAIN }
+/// Appends the same, if there is a cycle.
+pub(crate) fn push_cycle_lines(text: &mut Explanation, cycle: Option<Cycle>)
+    requires { length text.old + LINE ≤ CAPACITY }
+    ensures items { text.new ≡ text.old ++ cycle_lines cycle }
+    ensures few { length text.new ≤ length text.old + LINE }
 {
-    if let Some(level) = level {
-        push_cycle_line(text, level);
+    if let Some(cycle) = cycle {
+        push_cycle_line(text, cycle);
     }
 }
 

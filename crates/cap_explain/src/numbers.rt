@@ -7,6 +7,7 @@ ghost use Rattle.std.specs.Prelude.{◌≡◌};
 use crate::charge::refusal_charge;
 use cap_frame::Segments;
 use cap_spec::StrictRefusal;
+use cap_trace::Cycle;
 use cap_walk::Limits;
 
 /// Where in an input a message begins.
@@ -19,7 +20,7 @@ pub struct MessageStart {
 }
 
 /// What an explanation says beside the message. It has the limits, the charge up to the refused
-/// pointer, and the level of a cycle. It also has where the message begins.
+/// pointer, and the last cycle of the path to it. It also has where the message begins.
 #[derive(Clone, Copy, Debug, PartialEq, Eq, Drop)]
 pub struct Numbers {
     /// The limit of the charge, in words.
@@ -28,23 +29,23 @@ pub struct Numbers {
     pub depth: u32,
     /// The charge up to the pointer that is named, with its target, if the word limit is passed there.
     pub charge: Option<u64>,
-    /// The level of a cycle: at it the path to the refused pointer was at that word before. `None` if
-    /// it wasn't, or if the reason isn't the depth limit.
-    pub cycle: Option<u32>,
+    /// The last cycle on the path to the refused pointer. `None` if there is none, or if the reason is
+    /// no limit.
+    pub cycle: Option<Cycle>,
     /// Whether the message has a segment table, which comes before its segments.
     pub has_table: bool,
     /// Where the message begins, if it is one of a stream.
     pub start: Option<MessageStart>,
 }
 
-/// The numbers of a message that is refused within limits, with this level of a cycle. Walks
+/// The numbers of a message that is refused within limits, with this cycle. Walks
 /// only for the word limit. Allocates nothing.
 // The walk keeps its runs on the stack: a caller's frame isn't to have them while it writes.
 #[inline(never)]
 pub fn numbers_of<M: Segments>(
     message: &M,
     refusal: &StrictRefusal,
-    cycle: Option<u32>,
+    cycle: Option<Cycle>,
     limits: Limits,
     has_table: bool,
     start: Option<MessageStart>,

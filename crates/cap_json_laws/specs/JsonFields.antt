@@ -9,6 +9,7 @@ use Rattle.cap_spec.specs.PathTexts.{path_text}
 use Rattle.cap_spec.specs.Texts.{Verdict, accepted, refused}
 use Rattle.cap_spec.specs.declared.Step.{Step}
 use Rattle.cap_difference.specs.declared.difference.Difference.{Difference}
+use Rattle.cap_trace.specs.declared.returning.Cycle.{Cycle}
 use Rattle.cap_text.specs.DifferenceLines.{difference_name}
 
 -- a member of this name
@@ -84,13 +85,18 @@ reason_fields name s w p path sentence =
     (codes "reason", string name)
     ∷ (place_fields s w p ++ path_fields path ++ (codes "sentence", string sentence) ∷ [])
 
--- the level at which the path was at its pointer word before, if it was: the level of a cycle
-abbrev pub cycle_fields : Option ℕ → List Field
+-- a cycle: its pointer word, and the two levels at which the path reaches it
+abbrev pub word_and_levels : Cycle → List Field
+word_and_levels c = (codes "segment", numeral c.segment) ∷ (codes "word", numeral c.word)
+    ∷ (codes "from_level", numeral c.from_level) ∷ (codes "to_level", numeral c.to_level) ∷ []
+
+-- the last cycle of the path, if it has one
+abbrev pub cycle_fields : Option Cycle → List Field
 cycle_fields None = []
-cycle_fields (Some level) = (codes "cycle_level", numeral level) ∷ []
+cycle_fields (Some c) = (codes "cycle", object_of (word_and_levels c)) ∷ []
 
 -- the value of message n with this verdict, which is explained if it is refused
-abbrev pub explained_value : ℕ → Verdict → Option (List Step) → List ℕ → Option ℕ → Data
+abbrev pub explained_value : ℕ → Verdict → Option (List Step) → List ℕ → Option Cycle → Data
 explained_value n (accepted c d p k) path sentence cycle = verdict_value n (accepted c d p k)
 explained_value n (refused name s w p) path sentence cycle =
     object_of (head_fields n (codes "refused") (reason_fields name s w p path sentence ++ cycle_fields cycle))
@@ -120,10 +126,10 @@ abbrev pub HasNumbers : Verdict → Type 0
 HasNumbers (accepted c d p k) = Fits c × Fits d × Fits p × Fits k
 HasNumbers (refused name s w p) = Fits s × Fits w × Fits p
 
--- so has the level of a cycle, if there is one
-abbrev pub HasLevel : Option ℕ → Type 0
-HasLevel None = ⊤
-HasLevel (Some level) = Fits level
+-- so have the numbers of the cycle, if there is one
+abbrev pub HasCycleNumbers : Option Cycle → Type 0
+HasCycleNumbers None = ⊤
+HasCycleNumbers (Some c) = Fits c.segment × Fits c.word × Fits c.from_level × Fits c.to_level
 
 -- so have the numbers of the first difference, if there is one
 abbrev pub HasDifferencePlace : Option Difference → Type 0

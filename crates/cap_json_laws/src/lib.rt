@@ -3,7 +3,7 @@
 #![tactic(auto)]
 
 ghost use Rattle.cap_explain.specs.Meanings.{HasTrueReason};
-ghost use Rattle.cap_json_laws.specs.JsonFields.{Fits, HasLevel, HasNumbers, HasDifferencePlace, IsLineOf, IsUnescaped, accepted_value, canonical_fields, check_value, explained_value, filter_fields, hash_value, no_form_value, verdict_value};
+ghost use Rattle.cap_json_laws.specs.JsonFields.{Fits, HasCycleNumbers, HasNumbers, HasDifferencePlace, IsLineOf, IsUnescaped, accepted_value, canonical_fields, check_value, explained_value, filter_fields, hash_value, no_form_value, verdict_value};
 ghost use Rattle.cap_difference.specs.declared.difference.Difference.{Difference};
 ghost use Rattle.cap_difference.specs.declared.reason.DifferenceReason.{DifferenceReason};
 ghost use Rattle.cap_explain.specs.Sentences.{difference_sentence};
@@ -13,6 +13,7 @@ ghost use Rattle.cap_spec.specs.SpecNames.{refused, strict_verdict};
 ghost use Rattle.cap_spec.specs.Texts.{accepted};
 ghost use Rattle.cap_spec.specs.declared.Step.{Step};
 ghost use Rattle.cap_spec.specs.declared.StrictRefusal.{StrictRefusal};
+ghost use Rattle.cap_trace.specs.declared.returning.Cycle.{Cycle};
 ghost use Rattle.std.specs.List.{AllByRecursion};
 ghost use Rattle.std.specs.Prelude.{Bool, List, Option, [], codes, ℕ, ◌++◌, ◌<◌};
 
@@ -56,13 +57,13 @@ pub fn no_form_reads_back()
 
 /// The line of `explain` about a refused message reads back as its fields, if its sentence has no byte
 /// that JSON escapes. The fields are the number, the verdict, the name of the reason, and the place and
-/// the number of the pointer. Then come the path to it, the sentence, and the level of a cycle, if there
+/// the number of the pointer. Then come the path to it, the sentence, and the last cycle of the path, if there
 /// is one. If no pointer is refused, there is no place. There is no path if none is given, or if it has
 /// more than 257 steps. JSON escapes no byte of a path.
 pub fn explained_reads_back()
     ensures { (n : ℕ) (fault : StrictRefusal) (path : Option (List Step)) (sentence : List ℕ)
-        (cycle : Option ℕ) → let v = strict_verdict fault in
-        Fits n → HasNumbers v → IsUnescaped sentence → HasLevel cycle →
+        (cycle : Option Cycle) → let v = strict_verdict fault in
+        Fits n → HasNumbers v → IsUnescaped sentence → HasCycleNumbers cycle →
         IsLineOf (explained_json n v path sentence cycle) (explained_value n v path sentence cycle) }
 {}
 

@@ -7,7 +7,7 @@ use Rattle.cap_spec.proofs.ProofNames.{IsFirstOverlap, refused, strict_verdict, 
 use Rattle.cap_vet.specs.VetNames.{IsDemandFault}
 use Rattle.cap_explain.specs.Explaining.{overlap_explanation}
 use Rattle.cap_explain.specs.declared.numbers.MessageStart.{MessageStart}
-use Rattle.cap_explain.specs.FaultLines.{fault_lines, earlier_lines}
+use Rattle.cap_explain.specs.ExplainedFaults.{fault_lines, earlier_lines}
 use Rattle.cap_trace.specs.EarlierPointers.{FindsEarlier}
 use Rattle.cap_trace.specs.declared.earlier.EarlierPointer.{EarlierPointer}
 use Rattle.cap_text.proofs.Writing.{stopped_more}

@@ -10,9 +10,10 @@ use Rattle.cap_walk.specs.declared.report.Report.{Report}
 use Rattle.cap_explain.specs.Cycles.{IsFaultCycle}
 use Rattle.cap_explain.specs.Explaining.{earlier_explanation, overlap_explanation}
 use Rattle.cap_explain.specs.declared.numbers.MessageStart.{MessageStart}
-use Rattle.cap_explain.specs.FaultLines.{fault_lines, earlier_lines}
+use Rattle.cap_explain.specs.ExplainedFaults.{fault_lines, earlier_lines}
 use Rattle.cap_trace.specs.EarlierPointers.{IsEarlierOf, earlier_path}
 use Rattle.cap_trace.specs.declared.earlier.EarlierPointer.{EarlierPointer}
+use Rattle.cap_trace.specs.declared.returning.Cycle.{Cycle}
 use Rattle.cap_text.specs.Lines.{filter_line}
 use Rattle.cap_run.specs.Demanding.{IsStrictUnder, OrOverlap}
 use Rattle.cap_run.specs.Differing.{OrDifference}
@@ -26,13 +27,13 @@ abbrev pub start_after : Bool → ℕ → MessageStart
 start_after packed before = record { byte = 8 * before; packed = packed }
 
 -- The line of message n if it doesn't meet the demands, and the lines that explain the first reason. One
--- says that the path returns to the pointer word, exactly if the depth limit is passed there and it does. This
--- number of words of the input is before the message.
+-- names the last cycle of the path, exactly if a limit is passed there and the path has one. This number of words
+-- of the input is before the message.
 pub record ReportsFaultLines (packed : Bool) (demands : Demands) (words depth before n : ℕ) (m : List (List ℕ))
     (text : List ℕ) (counted : Counted) : Type 0 where
   pub fault : StrictRefusal
   pub is_fault : IsDemandFault demands m words depth fault
-  pub cycle : Option ℕ
+  pub cycle : Option Cycle
   pub is_cycle : IsFaultCycle demands m words depth fault is_fault cycle
   pub lines : text ≡ vet_text n (strict_verdict fault)
       ++ fault_lines true demands m words depth fault is_fault cycle (Some (start_after packed before))
@@ -48,7 +49,7 @@ RefusedByFilter m words depth None = Meets filter_demands m words depth
 RefusedByFilter m words depth (Some fault) = IsDemandFault filter_demands m words depth fault
 
 -- the line that they refuse a message that begins there, and the lines that explain it, or nothing. An
--- accepted message is within the depth limit, so there is no cycle.
+-- accepted message denotes a finite tree, so no path has a cycle.
 abbrev pub filter_lines : (m : List (List ℕ)) (words depth : ℕ) (start : MessageStart)
     (refusal : Option StrictRefusal) → RefusedByFilter m words depth refusal → List ℕ
 filter_lines m words depth start None h = []

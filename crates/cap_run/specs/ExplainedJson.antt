@@ -12,6 +12,7 @@ use Rattle.cap_explain.specs.Cycles.{IsFaultCycle}
 use Rattle.cap_explain.specs.Explaining.{explanation, overlap_explanation}
 use Rattle.cap_explain.specs.Meanings.{HasTrueReason, segment_named, word_named}
 use Rattle.cap_trace.specs.NamedPaths.{fault_path}
+use Rattle.cap_trace.specs.declared.returning.Cycle.{Cycle}
 use Rattle.cap_text.specs.JsonLines.{accepted_json, explained_json, filter_member}
 use Rattle.cap_run.specs.Demanding.{OrOverlap, OrRefused}
 use Rattle.cap_run.specs.Differing.{IsDifference, counted_by, difference_members}
@@ -31,13 +32,13 @@ FaultReason demands m words depth fault = HasTrueReason m (words_under demands m
     (segment_named fault) (word_named fault) (plain_lines m fault)
 
 -- The object of message n if it doesn't meet the demands: the first reason, with the path and the sentence. It has
--- the level of a cycle exactly if the depth limit is passed there and the path returns to the pointer word.
+-- the last cycle of the path exactly if a limit is passed there and the path has one.
 pub record ReportsFaultExplained (demands : Demands) (words depth n : ℕ) (m : List (List ℕ)) (text : List ℕ)
     (counted : Counted) : Type 0 where
   pub fault : StrictRefusal
   pub is_fault : IsDemandFault demands m words depth fault
   pub reason : FaultReason demands m words depth fault
-  pub cycle : Option ℕ
+  pub cycle : Option Cycle
   pub is_cycle : IsFaultCycle demands m words depth fault is_fault cycle
   pub line : text ≡ explained_json n (strict_verdict fault) (fault_path demands m words depth fault is_fault)
       reason.sentence cycle

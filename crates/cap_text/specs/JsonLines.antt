@@ -4,6 +4,7 @@ use Rattle.hex.specs.Hex.{encode_lower}
 use Rattle.cap_spec.specs.PathTexts.{path_text}
 use Rattle.cap_spec.specs.Texts.{Verdict, accepted, refused}
 use Rattle.cap_spec.specs.declared.Step.{Step}
+use Rattle.cap_trace.specs.declared.returning.Cycle.{Cycle}
 
 -- a member whose value is a number
 abbrev pub number_member : List ℕ → ℕ → List ℕ
@@ -65,13 +66,18 @@ abbrev pub reason_members : List ℕ → ℕ → ℕ → ℕ → Option (List St
 reason_members name s w p path sentence =
     reason_member name ++ place_members s w p ++ path_member path ++ sentence_member sentence
 
--- the level at which the path was at its pointer word before, if it was: the level of a cycle
-abbrev pub cycle_member : Option ℕ → List ℕ
+-- the members of a cycle: its pointer word, and the two levels at which the path reaches it
+abbrev pub cycle_members : Cycle → List ℕ
+cycle_members c = codes "\"segment\":" ++ decimal c.segment ++ number_member (codes "word") c.word
+    ++ number_member (codes "from_level") c.from_level ++ number_member (codes "to_level") c.to_level
+
+-- the last cycle of the path, if it has one
+abbrev pub cycle_member : Option Cycle → List ℕ
 cycle_member None = []
-cycle_member (Some level) = number_member (codes "cycle_level") level
+cycle_member (Some c) = codes ",\"cycle\":{" ++ cycle_members c ++ codes "}"
 
 -- the line of message n with this verdict, which is explained if it is refused
-abbrev pub explained_json : ℕ → Verdict → Option (List Step) → List ℕ → Option ℕ → List ℕ
+abbrev pub explained_json : ℕ → Verdict → Option (List Step) → List ℕ → Option Cycle → List ℕ
 explained_json n (accepted c d p k) path sentence cycle = verdict_json n (accepted c d p k)
 explained_json n (refused name s w p) path sentence cycle = object_start n (codes "refused") ++ codes ","
     ++ reason_members name s w p path sentence ++ cycle_member cycle ++ codes "}\n"

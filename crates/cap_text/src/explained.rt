@@ -1,7 +1,7 @@
 //! The JSON objects that explain why a message is refused, one a line (RFC 8259).
 
 ghost use Rattle.cap_spec.specs.Texts.{refused, strict_verdict};
-ghost use Rattle.cap_text.specs.JsonLines.{accepted_json, cycle_member, explained_json, filter_member, path_member, reason_member, reason_members, sentence_member, steps_member};
+ghost use Rattle.cap_text.specs.JsonLines.{accepted_json, cycle_member, cycle_members, explained_json, filter_member, path_member, reason_member, reason_members, sentence_member, steps_member};
 ghost use Rattle.cap_text.specs.Writing.{Writes};
 ghost use Rattle.std.specs.Option.{option_map};
 ghost use Rattle.std.specs.Prelude.{◌*◌, ◌+◌, ◌++◌, ◌≡◌, ◌≤◌, codes, length};
@@ -11,6 +11,7 @@ use crate::page::{CAPACITY, Page, write_bytes};
 use crate::verdict::{NAME, Refused, refused_for};
 use cap_buffer::{DIGITS, STEP, STEPS};
 use cap_spec::{Step, StrictRefusal};
+use cap_trace::Cycle;
 use cap_vet::Report;
 use cap_words::{ByteOut, OutFault};
 
@@ -88,14 +89,28 @@ pub(crate) fn push_refusal(page: &mut Page, why: Refused, path: Option<&[Step]>,
     push_sentence(page, sentence);
 }
 
-/// Appends the member of the level of a cycle, if there is one.
-fn push_cycle_member(page: &mut Page, cycle: Option<u32>)
-    requires fits { length page.old + MEMBER ≤ CAPACITY }
-    ensures items { page.new ≡ page.old ++ cycle_member cycle }
-    ensures few { length page.new ≤ length page.old + MEMBER }
+/// Appends the members of a cycle.
+fn push_cycle_members(page: &mut Page, cycle: Cycle)
+    requires fits { length page.old + 4 * MEMBER ≤ CAPACITY }
+    ensures items { page.new ≡ page.old ++ cycle_members cycle }
+    ensures few { length page.new ≤ length page.old + 4 * MEMBER }
 {
-    if let Some(level) = cycle {
-        push_member(page, b"cycle_level", u64::from(level));
+    page.push_named(b"\"segment\":", u64::from(cycle.segment));
+    push_member(page, b"word", u64::from(cycle.word));
+    push_member(page, b"from_level", u64::from(cycle.from_level));
+    push_member(page, b"to_level", u64::from(cycle.to_level));
+}
+
+/// Appends the member of a cycle, if there is one.
+fn push_cycle_member(page: &mut Page, cycle: Option<Cycle>)
+    requires fits { length page.old + 5 * MEMBER ≤ CAPACITY }
+    ensures items { page.new ≡ page.old ++ cycle_member cycle }
+    ensures few { length page.new ≤ length page.old + 5 * MEMBER }
+{
+    if let Some(cycle) = cycle {
+        page.push_text(b",\"cycle\":{");
+        push_cycle_members(page, cycle);
+        page.push_text(b"}");
     }
 }
 
@@ -106,7 +121,7 @@ fn refused_object(
     why: Refused,
     path: Option<&[Step]>,
     sentence: &[u8],
-    cycle: Option<u32>,
+    cycle: Option<Cycle>,
 )
     requires name { length why.name.now ≤ NAME }
     requires short { length sentence.now ≤ SENTENCE }
@@ -147,7 +162,7 @@ fn filtered_object(
 }
 
 /// Writes the JSON object of message `number`, which is refused: the reason, the place of the
-/// pointer, the path to it, the reason as a sentence, and the level of a cycle, if there is one
+/// pointer, the path to it, the reason as a sentence, and the last cycle of the path, if it has one
 /// (docs/output.md, JSON). A path of more than 257 steps has no member: no path to a pointer of a
 /// refusal has as many. What the page held before isn't written.
 ///
@@ -161,7 +176,7 @@ pub fn write_explained_json<O: ByteOut>(
     refusal: &StrictRefusal,
     path: Option<&[Step]>,
     sentence: &[u8],
-    cycle: Option<u32>,
+    cycle: Option<Cycle>,
 ) -> Result<(), OutFault>
     requires { length sentence.now ≤ 120 }
     ensures { Writes O.ByteOut out.old out.new result

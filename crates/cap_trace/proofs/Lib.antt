@@ -8,6 +8,6 @@ mod Nulls
 pub mod Numbering
 mod Objects
 mod Onward
-mod Returns
+pub mod Returns
 pub mod Sharing
 pub mod Traceable

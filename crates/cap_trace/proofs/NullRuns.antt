@@ -1,6 +1,6 @@
 -- A search goes on over null words of a row.
 use Rattle.cap_spec.proofs.Lemmas.{Before-irreflexive, one_used}
-use Rattle.cap_spec.proofs.ProofNames.{HasWord, IsOneOf, List, [], arith, length, near, refl, segment_of, subst, sym, suc, word, zero, ℕ}
+use Rattle.cap_spec.proofs.ProofNames.{HasWord, IsOneOf, List, [], arith, length, refl, segment_of, subst, sym, suc, word, zero, ℕ}
 use Rattle.cap_spec.proofs.ProofNames.{◌++◌, ◌+◌, ◌<◌, ◌∙◌, ◌∷◌, ◌≡◌, ◌≤◌, Before}
 use Rattle.std.proofs.Common.{inl, inr, ◌-◌}
 use Rattle.std.proofs.lemmas.Bool.{cases_lt}
@@ -16,7 +16,6 @@ use Rattle.cap_trace.proofs.Nulls.{nothing_below, null_leads}
 use Rattle.cap_trace.proofs.Onward.{apart_in_order}
 use Rattle.cap_trace.proofs.Returns.{element_no_word, few_taken}
 use Rattle.cap_trace.proofs.Sharing.{still_none}
-use Rattle.cap_spec.proofs.ProofNames.{Leads, to_null}
 
 -- A null word uses no word.
 null_unused : (m : List (List ℕ)) (s w : ℕ) (places : List (ℕ × ℕ)) → HasWord m s w 0 → UsesOneAt m s w places → ⊥

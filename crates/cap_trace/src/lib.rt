@@ -1,5 +1,5 @@
-//! The path of a pointer word of a message, by the word's number in preorder; the first pointer that uses
-//! a word that it uses; and where the path was at that word before.
+//! The path of a pointer word of a message, by the word's number in preorder; the last cycle on it; and the
+//! first pointer that uses a word that it uses.
 #![tactic(auto)]
 
 mod below;
@@ -14,6 +14,6 @@ mod used_words;
 
 pub use earlier::{EarlierPointer, earlier_pointer};
 pub use naming::NamedPath;
-pub use returning::return_level;
+pub use returning::{Cycle, last_cycle};
 pub use slot::StepSlot;
 pub use tracing::path_of_pointer;

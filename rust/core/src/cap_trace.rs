@@ -1,6 +1,6 @@
 // crates/cap_trace/src/lib.rt without its contracts, by tools/erase: that text is proved, this one is only tested.
-//! The path of a pointer word of a message, by the word's number in preorder; the first pointer that uses
-//! a word that it uses; and where the path was at that word before.
+//! The path of a pointer word of a message, by the word's number in preorder; the last cycle on it; and the
+//! first pointer that uses a word that it uses.
 
 mod below;
 mod branch;
@@ -14,6 +14,6 @@ mod used_words;
 
 pub use earlier::{earlier_pointer, EarlierPointer};
 pub use naming::NamedPath;
-pub use returning::return_level;
+pub use returning::{last_cycle, Cycle};
 pub use slot::StepSlot;
 pub use tracing::path_of_pointer;

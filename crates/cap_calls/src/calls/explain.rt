@@ -7,7 +7,8 @@ ghost use Rattle.cap_calls.specs.declared.answer.Answer.{Answer};
 ghost use Rattle.cap_calls.specs.declared.report.CallReport.{CallReport};
 ghost use Rattle.cap_explain.specs.Cycles.{IsFaultCycle};
 ghost use Rattle.cap_explain.specs.Explaining.{explanation};
-ghost use Rattle.cap_explain.specs.FaultLines.{fault_lines};
+ghost use Rattle.cap_explain.specs.ExplainedFaults.{fault_lines};
+ghost use Rattle.cap_trace.specs.declared.returning.Cycle.{Cycle};
 ghost use Rattle.cap_walk.specs.Demands.{IsDemandFault};
 ghost use Rattle.cap_walk.specs.Limits.{depth_of, words_of};
 ghost use Rattle.std.specs.Prelude.{◌≡◌, ◌≢◌, ◌≤◌, ◌⊎◌, [], List, None, Option, length, ℕ};
@@ -19,7 +20,7 @@ use crate::limits::CallLimits;
 use crate::one_slice::OneSlice;
 use crate::over::Call;
 use crate::report::CallReport;
-use cap_explain::{Explanation, Numbers, cycle_level, explain as explain_refusal, numbers_of};
+use cap_explain::{Explanation, Numbers, explain as explain_refusal, fault_cycle, numbers_of};
 use cap_frame::{ByteView, Segments};
 use cap_spec::StrictRefusal;
 use cap_trace::NamedPath;
@@ -149,7 +150,7 @@ fn explained<'b>(
 ) -> Found
     ensures lines { let m = ⟦<ByteView<'b> as Segments>⟧.segments view.now in
         (h : IsDemandFault demands m (words_of limits) (depth_of limits) refusal) →
-        (cycle : Option ℕ)
+        (cycle : Option Cycle)
         × IsFaultCycle demands m (words_of limits) (depth_of limits) refusal h cycle
         × PutsText (fault_lines has_table demands m (words_of limits) (depth_of limits) refusal h
         cycle None) out.old result.count out.new }
@@ -159,7 +160,7 @@ fn explained<'b>(
     let mut path = NamedPath::new();
     path.find_refused(view, limits, &refusal);
     let within = limits_under(view, limits, demands);
-    let cycle = cycle_level(view, &refusal, limits);
+    let cycle = fault_cycle(view, &refusal, limits);
     let numbers = numbers_of(view, &refusal, cycle, within, has_table, None);
     let count = put_lines(view, &refusal, numbers, &path, out);
     Found {

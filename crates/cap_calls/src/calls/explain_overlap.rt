@@ -6,7 +6,7 @@ ghost use Rattle.cap_calls.specs.PointerCalls.{steps_found};
 ghost use Rattle.cap_calls.specs.declared.answer.Answer.{Answer};
 ghost use Rattle.cap_calls.specs.declared.report.CallReport.{CallReport};
 ghost use Rattle.cap_explain.specs.Explaining.{overlap_lines};
-ghost use Rattle.cap_explain.specs.FaultLines.{earlier_lines};
+ghost use Rattle.cap_explain.specs.ExplainedFaults.{earlier_lines};
 ghost use Rattle.cap_trace.specs.EarlierPointers.{IsEarlierOf};
 ghost use Rattle.cap_trace.specs.PointerNumbers.{IsTraceable};
 ghost use Rattle.cap_trace.specs.declared.earlier.EarlierPointer.{EarlierPointer};

@@ -2,7 +2,7 @@
 
 ghost use Rattle.cap_explain.specs.Cycles.{IsFaultCycle};
 ghost use Rattle.cap_explain.specs.Explaining.{overlap_explanation};
-ghost use Rattle.cap_explain.specs.FaultLines.{fault_lines, earlier_lines};
+ghost use Rattle.cap_explain.specs.ExplainedFaults.{fault_lines, earlier_lines};
 ghost use Rattle.cap_frame.specs.Limit.{limit_of};
 ghost use Rattle.cap_run.specs.Breaking.{ExplainsStream};
 ghost use Rattle.cap_run.specs.Demanding.{AllocatesIn, AllocatesMarksUnder};
@@ -17,6 +17,7 @@ ghost use Rattle.cap_spec.specs.Occupying.{IsFirstOverlap};
 ghost use Rattle.cap_spec.specs.Texts.{refused, strict_verdict, vet_text};
 ghost use Rattle.cap_spec.specs.Tree.{Tree};
 ghost use Rattle.cap_text.specs.Writing.{Writes, Wrote};
+ghost use Rattle.cap_trace.specs.declared.returning.Cycle.{Cycle};
 ghost use Rattle.cap_vet.specs.Vettings.{message_of, report_of};
 ghost use Rattle.cap_walk.specs.Demands.{IsDemandFault};
 ghost use Rattle.cap_walk.specs.Limits.{depth_of, words_of};
@@ -33,7 +34,7 @@ use crate::settings::{ExplainSettings, Outcome};
 use crate::waiting::Flushing;
 use cap_difference::first_difference;
 use cap_explain::{
-    Explanation, MessageStart, Numbers, cycle_level, explain, explain_earlier, explain_overlap,
+    Explanation, MessageStart, Numbers, explain, explain_earlier, explain_overlap, fault_cycle,
     numbers_of,
 };
 use cap_frame::Segments;
@@ -41,7 +42,7 @@ use cap_spec::StrictRefusal;
 use cap_text::{
     Cause, ExplainedFault, Page, write_accepted, write_filtered, write_overlap, write_refused,
 };
-use cap_trace::{EarlierPointer, NamedPath};
+use cap_trace::{Cycle, EarlierPointer, NamedPath};
 use cap_vet::{Demands, ExclusiveRefusal, Limits, Vetted, limits_under, vet_with};
 use cap_words::{ByteOut, OutFault, WordSource};
 use std::alloc::Global;
@@ -58,12 +59,12 @@ fn start_after(packed: bool, before: u64) -> MessageStart
 }
 
 /// Writes the lines that explain why a message that begins at `start` doesn't meet demands, after a
-/// text that isn't empty. They have this level of a cycle.
+/// text that isn't empty. They name this cycle.
 fn write_explanation<M: Segments, O: ByteOut>(
     out: &mut O,
     message: &M,
     refusal: &StrictRefusal,
-    cycle: Option<u32>,
+    cycle: Option<Cycle>,
     limits: Limits,
     demands: Demands,
     start: MessageStart,
@@ -286,12 +287,12 @@ impl<T: AcceptedPrinter> Explaining<T> {
         requires { before < 2 ^ 61 }
         ensures { let m = M.segments message.now in let s = self.now in
             let words = words_of s.limits in let depth = depth_of s.limits in
-            (h : IsDemandFault s.demands m words depth refusal.now) → (cycle : Option ℕ)
+            (h : IsDemandFault s.demands m words depth refusal.now) → (cycle : Option Cycle)
             × IsFaultCycle s.demands m words depth refusal.now h cycle
             × Writes O.ByteOut out.old out.new result (vet_text number (strict_verdict refusal.now)
             ++ fault_lines true s.demands m words depth refusal.now h cycle (Some (start_after s.packed before))) }
     {
-        let cycle = cycle_level(message, refusal, self.limits);
+        let cycle = fault_cycle(message, refusal, self.limits);
         match write_refused(page, out, number, refusal) {
             Ok(()) => {
                 let start = start_after(self.packed, before);
@@ -434,7 +435,7 @@ impl<T: AcceptedPrinter> MessagePrinter for Explaining<T> {
 
 /// Does what [`run_vet_with`](crate::run_vet_with) does, and explains each refusal. After the line of
 /// a refused message come lines with the path to its pointer, the pointer word and where it leads,
-/// what is exceeded, whether the path returns to that word, and the reason as a sentence.
+/// what is exceeded, the last cycle of the path, and the reason as a sentence.
 ///
 /// If `settings.canonical` says so, a line on whether it is canonical comes after the text of an
 /// accepted message, with the first difference from its canonical copy and the lines that explain

@@ -16,6 +16,7 @@ ghost use Rattle.cap_spec.specs.Texts.{refused, strict_verdict};
 ghost use Rattle.cap_text.specs.JsonLines.{accepted_json, explained_json, filter_member};
 ghost use Rattle.cap_text.specs.Writing.{Writes};
 ghost use Rattle.cap_trace.specs.NamedPaths.{fault_path};
+ghost use Rattle.cap_trace.specs.declared.returning.Cycle.{Cycle};
 ghost use Rattle.cap_walk.specs.Demands.{IsDemandFault};
 ghost use Rattle.cap_walk.specs.Limits.{depth_of, words_of};
 ghost use Rattle.cap_walk.specs.declared.demands.Demands.{Demands};
@@ -31,7 +32,7 @@ use crate::engines::vetting::{
 use crate::engines::whole::explain_messages;
 use crate::settings::{ExplainSettings, Outcome};
 use crate::waiting::Flushing;
-use cap_explain::{Explanation, cycle_level, explain_overlap};
+use cap_explain::{Explanation, explain_overlap, fault_cycle};
 use cap_frame::Segments;
 use cap_spec::StrictRefusal;
 use cap_text::{
@@ -66,7 +67,7 @@ fn write_fault_object<M: Segments, O: ByteOut>(
         × IsDemandFault demands (M.segments message.now) words (depth_of limits) refusal.now }
     ensures { let m = M.segments message.now in let depth = depth_of limits in
         (demands : Demands) (words : ℕ) → (h : IsDemandFault demands m words depth refusal.now) →
-        (reason : FaultReason demands m words depth refusal.now) → (cycle : Option ℕ)
+        (reason : FaultReason demands m words depth refusal.now) → (cycle : Option Cycle)
         × IsFaultCycle demands m words depth refusal.now h cycle
         × Writes O.ByteOut out.old out.new result (explained_json number (strict_verdict refusal.now)
         (fault_path demands m words depth refusal.now h) reason.sentence cycle) }
@@ -75,7 +76,7 @@ fn write_fault_object<M: Segments, O: ByteOut>(
     path.find_refused(message, limits, refusal);
     let lines = reason_lines(message, refusal);
     let sentence = last_reason(lines.text());
-    let cycle = cycle_level(message, refusal, limits);
+    let cycle = fault_cycle(message, refusal, limits);
     write_explained_json(page, out, number, refusal, path.steps(), sentence, cycle)
 }
 
@@ -233,8 +234,8 @@ impl RefusalPrinter for ExplainedRefusals {
 
 /// Does what [`run_explain`](crate::run_explain) does, and writes a JSON object for each message in the
 /// place of its lines. That of a refused message has the path to the pointer and the reason as a
-/// sentence. It has the level of a cycle if the depth limit is passed and the path returns to the
-/// pointer word. That of an accepted message says why `filter`, the guard and the libraries refuse it,
+/// sentence. It has the last cycle of the path, if a limit is passed and there is one. That of an
+/// accepted message says why `filter`, the guard and the libraries refuse it,
 /// if they do (docs/output.md, JSON).
 ///
 /// # Errors

@@ -3,7 +3,7 @@
 use crate::held::message;
 use crate::same::{same, same_of};
 use cap_frame::Segments;
-use cap_trace::{path_of_pointer, return_level};
+use cap_trace::{last_cycle, path_of_pointer};
 use cap_vet::{Limits, Step, StrictRefusal, vet_strict};
 use std::process::Abort;
 use std::test::Fail;
@@ -108,31 +108,50 @@ fn a_path_that_does_not_fit(rt: HostRuntime) -> Result<(), Fail> {
     Ok(())
 }
 
-// The words of each segment of a message, and the level from which the path to the refused pointer
-// comes back to its own word.
-type Return = (&'static [&'static [u64]], Option<u32>);
+// The words of each segment of a message, and the last cycle of the path to the refused pointer: its
+// word in segment 0, and both levels.
+type Round = (&'static [&'static [u64]], Option<(u32, u32, u32)>);
 
-static RETURNS: [Return; 3] = [
+static ROUNDS: [Round; 4] = [
     // A struct whose pointer leads to the struct again. The level past the limit is 11.
-    (&[&[0x0000000000000100, 0xfcffffff00000100]], Some(10)),
+    (
+        &[&[0x0000000000000100, 0xfcffffff00000100]],
+        Some((1, 10, 11)),
+    ),
     // A struct and one below it, which leads to the first.
     (
         &[&[0x0000000000000100, 0x0000000000000100, 0xf8ffffff00000100]],
-        Some(9),
+        Some((2, 9, 11)),
+    ),
+    // The same, but the last struct has another pointer first, which leads out of the path.
+    (
+        &[&[
+            0x0000000000000100,
+            0x0000000000000200,
+            0x0400000001000000,
+            0xf4ffffff00000100,
+            0x0000000000000000,
+        ]],
+        Some((1, 8, 10)),
     ),
     // A struct with a pointer out of its segment.
     (&[&[0x0000000000000100, 0x0000000001000000]], None),
 ];
 
 #[test]
-fn returns_of_refusals(rt: HostRuntime) -> Result<(), Fail> {
+fn cycles_of_refusals(rt: HostRuntime) -> Result<(), Fail> {
     let limits = Limits::new(100, 10).ok_or("no limits")?;
-    for (encoded, level) in &RETURNS {
+    for (encoded, expected) in &ROUNDS {
         let message = message(rt.alloc(), *encoded)?;
         let number = pointers_of(&message, limits)?;
-        same(&rt, return_level(&message, limits, number), *level);
-        same(&rt, return_level(&message, limits, 1), None);
-        same(&rt, return_level(&message, limits, 1000), None);
+        let found = last_cycle(&message, limits, number).map(|cycle| (
+            cycle.word,
+            cycle.from_level,
+            cycle.to_level,
+        ));
+        same(&rt, found, *expected);
+        same(&rt, last_cycle(&message, limits, 1), None);
+        same(&rt, last_cycle(&message, limits, 1000), None);
     }
     Ok(())
 }

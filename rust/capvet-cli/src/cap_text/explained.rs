@@ -6,6 +6,7 @@ use crate::cap_text::page::{write_bytes, Page, CAPACITY};
 use crate::cap_text::verdict::{refused_for, Refused, NAME};
 use capvet_core::cap_buffer::{DIGITS, STEP, STEPS};
 use capvet_core::cap_spec::{Step, StrictRefusal};
+use capvet_core::cap_trace::Cycle;
 use capvet_core::cap_vet::Report;
 use capvet_core::cap_words::{ByteOut, OutFault};
 
@@ -56,10 +57,20 @@ pub(crate) fn push_refusal(page: &mut Page, why: Refused, path: Option<&[Step]>,
     push_sentence(page, sentence);
 }
 
-/// Appends the member of the level of a cycle, if there is one.
-fn push_cycle_member(page: &mut Page, cycle: Option<u32>) {
-    if let Some(level) = cycle {
-        push_member(page, b"cycle_level", u64::from(level));
+/// Appends the members of a cycle.
+fn push_cycle_members(page: &mut Page, cycle: Cycle) {
+    page.push_named(b"\"segment\":", u64::from(cycle.segment));
+    push_member(page, b"word", u64::from(cycle.word));
+    push_member(page, b"from_level", u64::from(cycle.from_level));
+    push_member(page, b"to_level", u64::from(cycle.to_level));
+}
+
+/// Appends the member of a cycle, if there is one.
+fn push_cycle_member(page: &mut Page, cycle: Option<Cycle>) {
+    if let Some(cycle) = cycle {
+        page.push_text(b",\"cycle\":{");
+        push_cycle_members(page, cycle);
+        page.push_text(b"}");
     }
 }
 
@@ -70,7 +81,7 @@ fn refused_object(
     why: Refused,
     path: Option<&[Step]>,
     sentence: &[u8],
-    cycle: Option<u32>,
+    cycle: Option<Cycle>,
 ) {
     start_object(page, number, b"refused");
     page.push_text(b",");
@@ -98,7 +109,7 @@ fn filtered_object(
 }
 
 /// Writes the JSON object of message `number`, which is refused: the reason, the place of the
-/// pointer, the path to it, the reason as a sentence, and the level of a cycle, if there is one
+/// pointer, the path to it, the reason as a sentence, and the last cycle of the path, if it has one
 /// (docs/output.md, JSON). A path of more than 257 steps has no member: no path to a pointer of a
 /// refusal has as many. What the page held before isn't written.
 ///
@@ -112,7 +123,7 @@ pub fn write_explained_json<O: ByteOut>(
     refusal: &StrictRefusal,
     path: Option<&[Step]>,
     sentence: &[u8],
-    cycle: Option<u32>,
+    cycle: Option<Cycle>,
 ) -> Result<(), OutFault> {
     refused_object(page, number, refused_for(refusal), path, sentence, cycle);
     write_bytes(out, page.text())

@@ -63,7 +63,7 @@ fn push_lines<M: Segments>(
 }
 
 /// The space for all lines on a fault but that of the path.
-const LINES: usize = POINTER + 3 * PLAIN;
+const LINES: usize = POINTER + 2 * PLAIN + LINE;
 
 /// Appends the lines of a fault that names a word.
 fn push_fault<M: Segments>(
@@ -92,7 +92,7 @@ fn push_fault<M: Segments>(
 
 /// Writes the lines that explain why a message is refused (docs/output.md, explain). They give the
 /// path to the pointer, where it is, and the pointer word with its fields. Then come where it leads,
-/// what is exceeded, whether the path returns to the pointer word, and the reason as a sentence. A
+/// what is exceeded, the last cycle of the path, and the reason as a sentence. A
 /// path of more than 24 steps is shortened. What the text held before is removed. Allocates nothing.
 ///
 /// A refusal that names no word of the message has only the line of the reason, and that of a path

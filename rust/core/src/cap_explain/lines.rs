@@ -12,6 +12,7 @@ use crate::cap_explain::words::first_byte_of;
 use crate::cap_frame::Segments;
 use crate::cap_ptr::{extent, far_segment, is_structs, list_size, pad, words_of_elements};
 use crate::cap_spec::Reason;
+use crate::cap_trace::Cycle;
 
 /// The space for one line without the form of a word.
 pub(crate) const PLAIN: usize = 140;
@@ -234,19 +235,19 @@ pub(crate) fn push_excess_line<M: Segments>(
     }
 }
 
-/// Appends that the path returns to the pointer word, which it reached at this level.
-fn push_cycle_line(text: &mut Explanation, level: u32) {
-    text.push_named(
-        b"  cycle: the path returns to this pointer word, which it reached at level ",
-        u64::from(level),
-    );
+/// Appends where the path reaches a pointer word, and where it returns to it.
+fn push_cycle_line(text: &mut Explanation, cycle: Cycle) {
+    text.push_text(b"  cycle: the path reaches pointer word ");
+    text.push_place(cycle.segment, u64::from(cycle.word));
+    text.push_named(b" at level ", u64::from(cycle.from_level));
+    text.push_named(b", and returns to it at level ", u64::from(cycle.to_level));
     text.push_text(b"\n");
 }
 
-/// Appends the same, if it does.
-pub(crate) fn push_cycle_lines(text: &mut Explanation, level: Option<u32>) {
-    if let Some(level) = level {
-        push_cycle_line(text, level);
+/// Appends the same, if there is a cycle.
+pub(crate) fn push_cycle_lines(text: &mut Explanation, cycle: Option<Cycle>) {
+    if let Some(cycle) = cycle {
+        push_cycle_line(text, cycle);
     }
 }
 

@@ -1,35 +1,82 @@
 // crates/cap_trace/src/returning.rt without its contracts, by tools/erase: that text is proved, this one is only tested.
-//! Where a path comes back to its own pointer word.
+//! Where a path comes back to a pointer word that it has reached before.
 
 use crate::cap_frame::Segments;
 use crate::cap_trace::branch::{Branch, Form, WordPlace};
 use crate::cap_trace::seeking::{seek, BranchStack, ROOT};
 use crate::cap_walk::Limits;
 
-/// Where the path to the pointer word of this number was at that word before: the level of what the
-/// word leads to there. It is the level of the last time before the end of the path. What the root
-/// word leads to has level 1, and each step adds one. If the path is there twice, the pointers between
-/// the two times are a cycle.
+/// A pointer word that a path reaches again. The pointers from the one time to the other are a cycle.
 ///
-/// `None` if the path is at its word only once. `None` also where [`crate::path_of_pointer`] finds no
-/// path. The word limit has no effect. Looks at the pointer words before that one. Allocates nothing.
-pub fn return_level<M: Segments>(message: &M, limits: Limits, number: u64) -> Option<u32> {
-    returned(message, limits.depth(), number)
+/// What the root word leads to has level 1, and each step adds one.
+#[derive(Clone, Copy, Debug, PartialEq, Eq)]
+pub struct Cycle {
+    /// The segment of the pointer word.
+    pub segment: u32,
+    /// The pointer word, counted in its segment.
+    pub word: u32,
+    /// The level of what the word leads to, where the path has reached it before for the last time.
+    pub from_level: u32,
+    /// The same, where the path reaches it again.
+    pub to_level: u32,
+}
+
+/// The last cycle on the path to the pointer word of this number. It ends with the last pointer word
+/// of the path that the path has reached before. It begins where the path was there the last time.
+///
+/// `None` if the path reaches each pointer word once. `None` also where [`crate::path_of_pointer`] finds
+/// no path. The word limit has no effect. Looks at the pointer words before that one. Allocates nothing.
+pub fn last_cycle<M: Segments>(message: &M, limits: Limits, number: u64) -> Option<Cycle> {
+    sought(message, limits.depth(), number)
 }
 
 // The same by the depth limit alone. Its stack of branches is no part of a caller's frame.
 #[inline(never)]
-fn returned<M: Segments>(message: &M, depth: u32, number: u64) -> Option<u32> {
+fn sought<M: Segments>(message: &M, depth: u32, number: u64) -> Option<Cycle> {
     let mut branches = BranchStack::new();
     match seek(message, depth, number, &mut branches) {
-        Some(here) => last_before(branches.as_slice(), &here),
+        Some(_) => last_of(branches.as_slice()),
         None => None,
     }
 }
 
-// The level of the longest path over these branches, but not over all, that reaches this word.
-fn last_before(branches: &[Branch], here: &WordPlace) -> Option<u32> {
+// The last cycle on the path over these branches.
+fn last_of(branches: &[Branch]) -> Option<Cycle> {
     let mut steps = branches.len();
+    'shorter: loop {
+        if steps == 0 {
+            return None;
+        }
+        match cycle_at(branches, steps) {
+            Some(cycle) => return Some(cycle),
+            None => steps -= 1,
+        }
+    }
+}
+
+// The cycle that ends with the path over the first branches, if there is one.
+fn cycle_at(branches: &[Branch], steps: usize) -> Option<Cycle> {
+    let last = branches[steps - 1];
+    match last.form {
+        Form::Structs => None,
+        _ => {
+            let here = last.place();
+            match last_before(branches, steps, &here) {
+                Some(level) => Some(Cycle {
+                    segment: here.segment,
+                    word: here.at,
+                    from_level: level,
+                    to_level: steps as u32 + 1,
+                }),
+                None => None,
+            }
+        }
+    }
+}
+
+// The level of the longest path over fewer than `all` of these branches that reaches this word.
+fn last_before(branches: &[Branch], all: usize, here: &WordPlace) -> Option<u32> {
+    let mut steps = all;
     'shorter: loop {
         if steps == 0 {
             return None;

@@ -1,4 +1,4 @@
-use Rattle.cap_difference.specs.Reading.{HasWords}
+use Rattle.cap_difference.specs.ReadWords.{HasWords}
 use Rattle.cap_difference.proofs.reading.read_each.Given as goal
 
 abbrev pub invariant-words : goal.invariant-words

@@ -6,13 +6,13 @@ use Rattle.cap_trace.proofs.Returns.{is_return, no_return}
 use Rattle.cap_trace.proofs.returning.last_before.Goals as goal
 
 pub returns-then-steps-eq0 : goal.returns-then-steps-eq0
-returns-then-steps-eq0 c = λ m depth n h.
-    no_return m depth n _ c.args.here.now _ _ h
+returns-then-steps-eq0 c = λ m h.
+    no_return m _ c.args.all _ _ h c.requires.few.0
     (λ k less at. c.shorter.invariant.none k (omega (arith, c.if-steps-eq0.true)) less at)
 
 pub returns-then-comes_to : goal.returns-then-comes_to
-returns-then-comes_to c = λ m depth n h.
-    is_return m depth n _ c.args.here.now _ _ (c.shorter.steps - 1) h
+returns-then-comes_to c = λ m h.
+    is_return m _ c.args.all _ _ (c.shorter.steps - 1) h c.requires.few.0
     (omega (arith, c.shorter.invariant.few, c.if-steps-eq0.false)) (c.comes_to.ensures.0 c.if-comes_to.true)
     (λ j more few at. c.shorter.invariant.none j (omega (arith, more)) few at)
 

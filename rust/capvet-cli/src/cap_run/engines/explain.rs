@@ -14,12 +14,12 @@ use crate::cap_text::{
 };
 use capvet_core::cap_difference::first_difference;
 use capvet_core::cap_explain::{
-    cycle_level, explain, explain_earlier, explain_overlap, numbers_of, Explanation, MessageStart,
+    explain, explain_earlier, explain_overlap, fault_cycle, numbers_of, Explanation, MessageStart,
     Numbers,
 };
 use capvet_core::cap_frame::Segments;
 use capvet_core::cap_spec::StrictRefusal;
-use capvet_core::cap_trace::{EarlierPointer, NamedPath};
+use capvet_core::cap_trace::{Cycle, EarlierPointer, NamedPath};
 use capvet_core::cap_vet::{limits_under, vet_with, Demands, ExclusiveRefusal, Limits, Vetted};
 use capvet_core::cap_words::{ByteOut, OutFault, WordSource};
 use capvet_core::rattle::alloc::Global;
@@ -33,12 +33,12 @@ fn start_after(packed: bool, before: u64) -> MessageStart {
 }
 
 /// Writes the lines that explain why a message that begins at `start` doesn't meet demands, after a
-/// text that isn't empty. They have this level of a cycle.
+/// text that isn't empty. They name this cycle.
 fn write_explanation<M: Segments, O: ByteOut>(
     out: &mut O,
     message: &M,
     refusal: &StrictRefusal,
-    cycle: Option<u32>,
+    cycle: Option<Cycle>,
     limits: Limits,
     demands: Demands,
     start: MessageStart,
@@ -225,7 +225,7 @@ impl<T: AcceptedPrinter> Explaining<T> {
         message: &M,
         refusal: &StrictRefusal,
     ) -> Result<(), OutFault> {
-        let cycle = cycle_level(message, refusal, self.limits);
+        let cycle = fault_cycle(message, refusal, self.limits);
         match write_refused(page, out, number, refusal) {
             Ok(()) => {
                 let start = start_after(self.packed, before);
@@ -334,7 +334,7 @@ impl<T: AcceptedPrinter> MessagePrinter for Explaining<T> {
 
 /// Does what [`run_vet_with`](crate::run_vet_with) does, and explains each refusal. After the line of
 /// a refused message come lines with the path to its pointer, the pointer word and where it leads,
-/// what is exceeded, whether the path returns to that word, and the reason as a sentence.
+/// what is exceeded, the last cycle of the path, and the reason as a sentence.
 ///
 /// If `settings.canonical` says so, a line on whether it is canonical comes after the text of an
 /// accepted message, with the first difference from its canonical copy and the lines that explain

@@ -15,7 +15,7 @@ use crate::cap_text::{
     write_accepted_json, write_explained_json, write_explained_overlap_json, write_filtered_json,
     Cause, ExplainedFault, Page,
 };
-use capvet_core::cap_explain::{cycle_level, explain_overlap, Explanation};
+use capvet_core::cap_explain::{explain_overlap, fault_cycle, Explanation};
 use capvet_core::cap_frame::Segments;
 use capvet_core::cap_spec::StrictRefusal;
 use capvet_core::cap_trace::NamedPath;
@@ -44,7 +44,7 @@ fn write_fault_object<M: Segments, O: ByteOut>(
     path.find_refused(message, limits, refusal);
     let lines = reason_lines(message, refusal);
     let sentence = last_reason(lines.text());
-    let cycle = cycle_level(message, refusal, limits);
+    let cycle = fault_cycle(message, refusal, limits);
     write_explained_json(page, out, number, refusal, path.steps(), sentence, cycle)
 }
 
@@ -172,8 +172,8 @@ impl RefusalPrinter for ExplainedRefusals {
 
 /// Does what [`run_explain`](crate::run_explain) does, and writes a JSON object for each message in the
 /// place of its lines. That of a refused message has the path to the pointer and the reason as a
-/// sentence. It has the level of a cycle if the depth limit is passed and the path returns to the
-/// pointer word. That of an accepted message says why `filter`, the guard and the libraries refuse it,
+/// sentence. It has the last cycle of the path, if a limit is passed and there is one. That of an
+/// accepted message says why `filter`, the guard and the libraries refuse it,
 /// if they do (docs/output.md, JSON).
 ///
 /// # Errors

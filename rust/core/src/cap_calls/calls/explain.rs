@@ -9,7 +9,7 @@ use crate::cap_calls::one_slice::OneSlice;
 use crate::cap_calls::over::Call;
 use crate::cap_calls::report::CallReport;
 use crate::cap_explain::{
-    cycle_level, explain as explain_refusal, numbers_of, Explanation, Numbers,
+    explain as explain_refusal, fault_cycle, numbers_of, Explanation, Numbers,
 };
 use crate::cap_frame::{ByteView, Segments};
 use crate::cap_spec::StrictRefusal;
@@ -120,7 +120,7 @@ fn explained<'b>(
     let mut path = NamedPath::new();
     path.find_refused(view, limits, &refusal);
     let within = limits_under(view, limits, demands);
-    let cycle = cycle_level(view, &refusal, limits);
+    let cycle = fault_cycle(view, &refusal, limits);
     let numbers = numbers_of(view, &refusal, cycle, within, has_table, None);
     let count = put_lines(view, &refusal, numbers, &path, out);
     Found {

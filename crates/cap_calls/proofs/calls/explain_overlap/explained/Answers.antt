@@ -1,7 +1,7 @@
 -- The lines on both pointers.
 use Rattle.cap_spec.proofs.ProofNames.{List, None, Some, ap, subst, ℕ, ◌++◌}
 use Rattle.cap_explain.specs.Explaining.{overlap_lines}
-use Rattle.cap_explain.specs.FaultLines.{earlier_lines}
+use Rattle.cap_explain.specs.ExplainedFaults.{earlier_lines}
 use Rattle.cap_calls.specs.PackCalls.{ReportsText}
 use Rattle.cap_calls.proofs.calls.explain_overlap.explained.Goals as goal
 

@@ -1,6 +1,6 @@
 use Rattle.cap_spec.proofs.ProofNames.{codes, subst, sym, ◌++◌, IsWithin, refused, vet_text}
 use Rattle.cap_explain.specs.Explaining.{overlap_explanation}
-use Rattle.cap_explain.specs.FaultLines.{earlier_lines}
+use Rattle.cap_explain.specs.ExplainedFaults.{earlier_lines}
 use Rattle.cap_text.proofs.Writing.{stopped_more}
 use Rattle.cap_run.proofs.Explaining.{overlap_text}
 use Rattle.cap_run.proofs.engines.explain.write_both_pointers.Goals as goal

@@ -3,8 +3,8 @@ use Rattle.cap_vet.specs.VetNames.{depth_of, words_of}
 use Rattle.cap_explain.specs.Explaining.{explanation}
 use Rattle.cap_trace.specs.NamedPaths.{fault_path}
 use Rattle.cap_text.specs.Writing.{Writes}
-use Rattle.cap_explain.proofs.FaultLines.{same_numbers}
-use Rattle.cap_explain.specs.FaultLines.{fault_lines}
+use Rattle.cap_explain.proofs.ExplainedFaults.{same_numbers}
+use Rattle.cap_explain.specs.ExplainedFaults.{fault_lines}
 use Rattle.cap_run.proofs.engines.explain.write_explanation.Goals as goal
 
 pub returns : goal.returns

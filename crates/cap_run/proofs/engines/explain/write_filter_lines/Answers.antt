@@ -1,4 +1,4 @@
-use Rattle.cap_explain.specs.FaultLines.{fault_lines}
+use Rattle.cap_explain.specs.ExplainedFaults.{fault_lines}
 use Rattle.cap_spec.proofs.ProofNames.{None, append-nil, append_assoc, subst, sym, Some, true, ◌++◌, strict_verdict}
 use Rattle.cap_vet.specs.VetNames.{IsDemandFault, depth_of, words_of}
 use Rattle.cap_walk.specs.declared.demands.Demands.{Demands}

@@ -28,12 +28,12 @@ returns g c = λ demands words h reason.
     let n = c.args.number in
     let said = c.last_reason-sentence.ensures reason.sentence (subst (λ (lines : List ℕ). GivesReason lines reason.sentence)
     (sym (c.text.ensures.lines ∙ c.reason_lines-lines.ensures)) (true_gives m _ _ _ _ (plain_lines m refusal) reason)) in
-    let cycle = c.cycle_level-cycle.result in
+    let cycle = c.fault_cycle-cycle.result in
     let text = ap (λ path. explained_json n (strict_verdict refusal) path c.last_reason-sentence.result.now cycle)
     (c.steps.ensures ∙ c.find_refused.ensures demands words h)
     ∙ ap (λ (s : List ℕ). explained_json n (strict_verdict refusal) (fault_path demands m words depth refusal h) s cycle) said in (
       cycle,
-      c.cycle_level-cycle.ensures demands words h,
+      c.fault_cycle-cycle.ensures demands words h,
       subst (λ (t : List ℕ). Writes g.O.ByteOut c.args.out.now c.write_explained_json.new.out c.write_explained_json.result t) text
           c.write_explained_json.ensures,
     )

@@ -1,4 +1,4 @@
-use Rattle.cap_explain.specs.FaultLines.{fault_lines}
+use Rattle.cap_explain.specs.ExplainedFaults.{fault_lines}
 use Rattle.cap_spec.proofs.ProofNames.{List, ap, inl, inr, refl, subst, Some, ℕ, true, ◌++◌, strict_verdict, vet_text, Tree}
 use Rattle.cap_vet.specs.VetNames.{words_under, depth_of, words_of, IsReport, report_of}
 use Rattle.cap_run.specs.Differing.{OrDifference}
