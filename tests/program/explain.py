@@ -99,8 +99,9 @@ CYCLES = (
      ("0:1", 62, 65)),
     ("", "0000000000000100 0200000001000000 f8ffffff00000100 | 0100000017000000 0800000000000100 0000000000000000 0000000000000100 "
      "1200000000000000 | ", ("1:4", 61, 65)),
-    # where the path leaves the cycle: a pointer beside the one of the cycle is refused first
+    # where the path leaves the cycle: a pointer beside the one of the cycle is refused first, or one two steps below that
     ("", "0000000000000200 0400000001000000 f8ffffff00000200 2a00000000000000", ("0:2", 63, 64)),
+    ("", "0000000000000200 0400000000000100 f8ffffff00000200 0000000001000000 2a00000000000000", ("0:2", 62, 63)),
     # the path to the word limit
     ("--words 10", "fcffffff00000100", ("0:0", 10, 11)),
     ("--words 20", "0000000000000200 0400000001000000 f8ffffff00000200 2a00000000000000", ("0:2", 6, 7)),
