@@ -33,8 +33,9 @@ import needs
 import prove
 
 # For the program and for the archive the scripts that show their behaviour, and compare the plain build with the proved one.
-SCRIPTS = {prove.PROGRAM: ("program.py", "filter.py", "live.py", "readers.py", "pages.py", "plain_program.py"),
-           prove.ARCHIVE: ("calls.py", "header.py", "stack.py", "plain.py")}
+SCRIPTS = {prove.PROGRAM: ("program.py", "explain.py", "json_lines.py", "one.py", "files.py", "filter.py", "live.py", "readers.py", "pages.py",
+                           "plain_program.py"),
+           prove.ARCHIVE: ("calls.py", "differences.py", "header.py", "stack.py", "plain.py")}
 # Those of the program that run over the plain one before anything is proved.
 EARLY = ("program.py", "filter.py", "live.py")
 CORES = len(os.sched_getaffinity(0))
