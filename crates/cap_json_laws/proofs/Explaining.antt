@@ -10,7 +10,7 @@ use Rattle.cap_spec.specs.Texts.{refused}
 use Rattle.cap_spec.specs.declared.Step.{Step}
 use Rattle.cap_text.specs.JsonLines.{accepted_json, cycle_member, cycle_members, explained_json, filter_member, object_start, path_member, reason_members, steps_member}
 use Rattle.cap_trace.specs.declared.returning.Cycle.{Cycle}
-use Rattle.cap_json_laws.specs.JsonFields.{Field, Fits, HasCycleNumbers, IsLineOf, cycle_fields, head_fields, numeral, object_of, word_and_levels}
+use Rattle.cap_json_laws.specs.JsonFields.{Field, Fits, HasCycleNumbers, IsLineOf, head_fields, numeral, object_of}
 use Rattle.cap_json_laws.proofs.Escapes.{path_same}
 use Rattle.cap_json_laws.proofs.Fields.{AreRead, AreRead-append, number_read, object_read, string_read}
 use Rattle.cap_json_laws.proofs.Lines.{IsSame, accepted_line, four, numbered, object_line, place-later, place_read, placed}
@@ -34,16 +34,26 @@ why_with name place path sentence = (codes "reason", string name) ∷ (place ++ 
 abbrev pub why : List ℕ → ℕ → ℕ → ℕ → Option (List Step) → List ℕ → List Field
 why name s w p path sentence = why_with name (placed s w p) (on_path path) sentence
 
+-- the members of a cycle
+abbrev pub cycle_parts : Cycle → List Field
+cycle_parts c = (codes "segment", numeral c.segment) ∷ (codes "word", numeral c.word)
+    ∷ (codes "from_level", numeral c.from_level) ∷ (codes "to_level", numeral c.to_level) ∷ []
+
 -- the member of a cycle, if there is one, with its members in the order of the text
 abbrev pub round : Option Cycle → List Field
 round None = []
-round (Some c) = (codes "cycle", ordered (word_and_levels c)) ∷ []
+round (Some c) = (codes "cycle", ordered (cycle_parts c)) ∷ []
+
+-- what it is read as
+abbrev pub rounded : Option Cycle → List Field
+rounded None = []
+rounded (Some c) = (codes "cycle", object_of (cycle_parts c)) ∷ []
 
 -- ---- texts
 
-levels-later : (c : Cycle) → 44 ∷ cycle_members c ≡ later (word_and_levels c)
+parts-later : (c : Cycle) → 44 ∷ cycle_members c ≡ later (cycle_parts c)
 unfolding escape_byte
-levels-later c =
+parts-later c =
     ap₂ (λ (x y : List ℕ). x ++ y) (ap₂ (λ (x y : List ℕ). x ++ y) (ap₂ (λ (x y : List ℕ). x ++ y)
     (number-later (codes "segment") c.segment refl) (number-later (codes "word") c.word refl))
     (number-later (codes "from_level") c.from_level refl)) (number-later (codes "to_level") c.to_level refl)
@@ -54,10 +64,10 @@ cycle-later : (cycle : Option Cycle) → cycle_member cycle ≡ later (round cyc
 unfolding escape_byte
 cycle-later None = refl
 cycle-later (Some c) =
-    let object = ordered (word_and_levels c) in
+    let object = ordered (cycle_parts c) in
     let rest : List Field = (codes "word", numeral c.word) ∷ (codes "from_level", numeral c.from_level)
     ∷ (codes "to_level", numeral c.to_level) ∷ [] in
-    let same = object-later (codes "segment", numeral c.segment) rest (cycle_members c) (sym (levels-later c)) in
+    let same = object-later (codes "segment", numeral c.segment) rest (cycle_members c) (sym (parts-later c)) in
     ap (λ text. codes ",\"cycle\":" ++ text) (sym same) ∙ ap (λ text. codes ",\"cycle\":" ++ text) (sym (append-nil (compact_text object)))
 
 shown-later : (is_long : Bool) (steps : List Step) →
@@ -92,14 +102,14 @@ filter-later name s w p path sentence named said =
 
 -- ---- values
 
-cycle_read : (cycle : Option Cycle) → HasCycleNumbers cycle → AreRead 1 (round cycle) (cycle_fields cycle)
+cycle_read : (cycle : Option Cycle) → HasCycleNumbers cycle → AreRead 1 (round cycle) (rounded cycle)
 cycle_read None fits = tt
 cycle_read (Some c) fits =
     let segment = number_read 0 (codes "segment") c.segment fits.0 in
     let place = number_read 0 (codes "word") c.word fits.1 in
     let from = number_read 0 (codes "from_level") c.from_level fits.2 in
     let to = number_read 0 (codes "to_level") c.to_level fits.3 in
-    let members = word_and_levels c in (object_read 0 (codes "cycle") members members (segment, (place, (from, (to, tt)))) refl, tt)
+    let members = cycle_parts c in (object_read 0 (codes "cycle") members members (segment, (place, (from, (to, tt)))) refl, tt)
 
 shown_read : (levels : ℕ) (is_long : Bool) (steps : List Step) → AreRead levels (shown is_long steps) (shown is_long steps)
 shown_read levels true steps = tt
@@ -127,7 +137,7 @@ why_same name s w (suc p) true steps sentence = refl
 why_same name s w (suc p) false steps sentence = refl
 
 explained_same : (n : ℕ) (name : List ℕ) (s w p : ℕ) (is_long : Bool) (steps : List Step) (sentence : List ℕ) (cycle : Option Cycle) →
-    IsSame (head_fields n (codes "refused") (why_with name (placed s w p) (shown is_long steps) sentence ++ cycle_fields cycle))
+    IsSame (head_fields n (codes "refused") (why_with name (placed s w p) (shown is_long steps) sentence ++ rounded cycle))
 explained_same n name s w zero true steps sentence None = refl
 explained_same n name s w zero false steps sentence None = refl
 explained_same n name s w (suc p) true steps sentence None = refl
@@ -148,20 +158,20 @@ regroup a b c d = simp append_assoc
 pub explained_line : (n : ℕ) (name : List ℕ) (s w p : ℕ) (path : Option (List Step)) (sentence : List ℕ) (cycle : Option Cycle) →
     escape name ≡ name → escape sentence ≡ sentence → Fits n → Fits s → Fits w → Fits p → HasCycleNumbers cycle →
     IsLineOf (explained_json n (refused name s w p) path sentence cycle)
-    (object_of (head_fields n (codes "refused") (why name s w p path sentence ++ cycle_fields cycle)))
+    (object_of (head_fields n (codes "refused") (why name s w p path sentence ++ rounded cycle)))
 unfolding escape_byte
 explained_line n name s w p path sentence cycle named said fits s_fits w_fits p_fits cycle_fits =
     let reasons = why name s w p path sentence in
     let fields = reasons ++ round cycle in
-    let members = reasons ++ cycle_fields cycle in
+    let members = reasons ++ rounded cycle in
     let text = (codes "," ++ reason_members name s w p path sentence) ++ cycle_member cycle in
     let is = ap₂ (λ (x y : List ℕ). x ++ y) (why-later name s w p path sentence named said) (cycle-later cycle)
     ∙ sym (later-append reasons (round cycle)) in
     let same = on_paths (λ shown_path. IsSame (head_fields n (codes "refused")
-    (why_with name (placed s w p) shown_path sentence ++ cycle_fields cycle)))
+    (why_with name (placed s w p) shown_path sentence ++ rounded cycle)))
     path (λ is_long steps. explained_same n name s w p is_long steps sentence cycle) in
     let line = object_line n (codes "refused") text fields members refl is fits
-    (AreRead-append 1 reasons reasons (round cycle) (cycle_fields cycle) (why_read 1 name s w p path sentence s_fits w_fits p_fits)
+    (AreRead-append 1 reasons reasons (round cycle) (rounded cycle) (why_read 1 name s w p path sentence s_fits w_fits p_fits)
     (cycle_read cycle cycle_fits)) same in
     subst (λ front. IsLineOf (front ++ codes "}\n") (object_of (head_fields n (codes "refused") members)))
     (regroup (object_start n (codes "refused")) (codes ",") (reason_members name s w p path sentence) (cycle_member cycle)) line
