@@ -551,6 +551,19 @@ def compare_cycles():
         compare(f"the lines of a cycle, {options} {words}", lines_of(0, segments_of(given), options.split(), (0, False))[0], lines)
 
 
+def compare_other_paths(many):
+    """The path to a pointer that is refused for another reason than a limit reaches each word once, so no line of a cycle is lacking."""
+    chance, found = random.Random("other paths"), 0
+    frames = [cyclic_message(chance) for _ in range(many)]
+    lines = outputs([PROGRAM, "vet"], b"".join(frames))[0].decode().splitlines()
+    for frame, line in zip(frames, lines, strict=True):
+        refused = re.search(r" refused (\w+) at \d+:\d+ pointers ([1-9]\d*)$", line)
+        if refused and refused[1] not in ("DepthLimit", "WordLimit", "NoRoot"):
+            found += 1
+            compare(f"a cycle on the path, {frame.hex()}", [], list(cycle_lines(segments_of(frame), int(refused[2]))))
+    expect("paths to other faults", found >= many // 10, found)
+
+
 def compare_overlaps(many):
     """Runs of the program over messages in which most pointers lead to words of one another."""
     chance, seen = random.Random("overlaps"), Counter()
@@ -898,6 +911,7 @@ def main():
     for at in range(0, len(stream), RUN):
         compare_lines(OPTIONS[at // RUN % len(OPTIONS)], stream[at:at + RUN], at, seen, filtered)
     compare_cycles()
+    compare_other_paths(MANY // 10)
     compare_overlaps(MANY)
     compare_differences(3 * MANY)
     explained_in_c(stream)
